@@ -1,0 +1,3 @@
+// The rows of a record, and every refusal that a call can answer.
+pub mod refusal;
+pub mod row;

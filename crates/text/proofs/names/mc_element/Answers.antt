@@ -1,0 +1,21 @@
+use mathlib.Core.Path.{sym, _∙_}
+use Rattle.text.specs.Names.{elementNamed}
+use Rattle.text.proofs.names.mc_element.Needs as need
+
+pub returns-then-same : need.returns-then-same
+unfolding elementNamed
+returns-then-same c = rw (sym (c .same .ensures) ∙ c .if-same .taken)
+
+pub returns-then-same-2 : need.returns-then-same-2
+unfolding elementNamed
+returns-then-same-2 c = rw (sym (c .same .ensures) ∙ c .if-same .left, sym (c .same-2 .ensures) ∙ c .if-same-2 .taken)
+
+pub returns-then-same-3 : need.returns-then-same-3
+unfolding elementNamed
+returns-then-same-3 c =
+    rw (sym (c .same .ensures) ∙ c .if-same .left, sym (c .same-2 .ensures) ∙ c .if-same-2 .left, sym (c .same-3 .ensures) ∙ c .if-same-3 .taken)
+
+pub returns : need.returns
+unfolding elementNamed
+returns c =
+    rw (sym (c .same .ensures) ∙ c .if-same .left, sym (c .same-2 .ensures) ∙ c .if-same-2 .left, sym (c .same-3 .ensures) ∙ c .if-same-3 .left)
