@@ -24,9 +24,10 @@ module _ (test : ℕ → Bool) where
   unfolding firstFrom
   none-from k zero h j low high = absurd (omega arith)
   none-from k (suc n) h j low high =
-      elim (test k) as (λ v. test k ≡ v → isSome (cond v (Some k) (firstFrom test (k + 1) n)) ≡ false → test j ≡ false)
-      [ true ↦ λ e g. absurd (true≢false g)
-      | false ↦ λ e g. elim (cases-eq k j) [ inl same ↦ ap test (sym same) ∙ e | inr apart ↦ none-from (k + 1) n g j (omega arith) (omega arith) ] ]
+      elim (test k) as (λ v. test k ≡ v → isSome (cond v (Some k) (firstFrom test (k + 1) n)) ≡ false → test j ≡ false) [
+        | true ↦ λ e g. absurd (true≢false g)
+        | false ↦ λ e g. elim (cases-eq k j) [ inl same ↦ ap test (sym same) ∙ e | inr apart ↦ none-from (k + 1) n g j (omega arith) (omega arith) ]
+      ]
       refl h
 
   pub none-at : (n : ℕ) → noneOf test n ≡ true → (j : ℕ) → j < n → test j ≡ false

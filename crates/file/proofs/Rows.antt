@@ -1,6 +1,7 @@
 -- The rows of a table.
 use mathlib.Core.Path.{_≡_}
-use Prim.Native.Nat.{ℕ, _/_, _<_, _≤_}
+use Prim.Native.Nat.{ℕ, _*_, _/_, _<_, _≤_}
+use native.Mathlib.Omega.{arith}
 use lib.ListN.{length}
 use Rattle.std.specs.Finite.{nth}
 use Rattle.std.specs.declared.option.Option.the-variants.{Some, None}
@@ -20,3 +21,6 @@ module _ (rows : Bytes) where
   pub row-none : (i : ℕ) → length rows / 16 ≤ i → nth (rowsOf rows) i ≡ None
   unfolding rowsOf
   row-none i le = counted-past (rowOf rows) (length rows / 16) i le
+
+  pub few-rows : (n : ℕ) → length rows ≡ 16 * n → n ≤ 2048 → length (rowsOf rows) ≤ 2048
+  few-rows n e le = omega (arith, length-rows)

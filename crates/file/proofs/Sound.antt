@@ -45,10 +45,12 @@ module _ (pairs bytes : Bytes) where
       → sameBytes (textOf pairs bytes i) (textOf pairs bytes j) ≡ eqb i j
   distinct-pairs n h i j li lj =
       elim (cases-order i j) [
-        inl e ↦ rw e (same-refl (textOf pairs bytes j) ∙ sym (eq-eqb j j refl))
-      | inr o ↦ elim o [
-          inl below ↦ apart n h i j below lj ∙ sym (ne-eqb i j (λ e. omega arith))
-        | inr above ↦ same-sym (textOf pairs bytes j) (textOf pairs bytes i) (apart n h j i above li) ∙ sym (ne-eqb i j (λ e. omega arith)) ] ]
+        | inl e ↦ rw e (same-refl (textOf pairs bytes j) ∙ sym (eq-eqb j j refl))
+        | inr o ↦ elim o [
+          | inl below ↦ apart n h i j below lj ∙ sym (ne-eqb i j (λ e. omega arith))
+          | inr above ↦ same-sym (textOf pairs bytes j) (textOf pairs bytes i) (apart n h j i above li) ∙ sym (ne-eqb i j (λ e. omega arith))
+        ]
+      ]
 
   pub length-texts : length (textsOf pairs bytes) ≡ pairCount pairs
   unfolding textsOf

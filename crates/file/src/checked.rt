@@ -1,13 +1,11 @@
 ghost use mathlib.Core.Path.{_≡_};
-ghost use mathlib.Core.Bool.{Bool};
-ghost use Prim.Native.Nat.{ℕ, _+_, _*_, _≤_};
+ghost use Prim.Native.Nat.{_+_, _*_, _≤_};
 ghost use lib.ListN.{length};
 ghost use Rattle.std.specs.Finite.{nth};
 ghost use Rattle.std.specs.Vec.{made};
 ghost use Rattle.file.specs.Form.{withinLimits, opened, rowOf, Distinct};
 ghost use Rattle.file.specs.Texts.{texts};
 ghost use Rattle.file.specs.Files.{held, answer};
-
 use crate::number::number_at;
 use crate::texts::Texts;
 use record::refusal::Refusal;
@@ -45,6 +43,7 @@ impl<'a> File<'a> {
     pub fn check(bytes: &'a [u8]) -> Result<File<'a>, Refusal>
         ensures answer { λ r. ⌜ answer r ≡ opened (now (bytes .entry)) ⌝ }
         ensures distinct { λ r. ⌜ made r (λ f. Distinct (held f .texts)) ⌝ }
+        ensures few { λ r. ⌜ made r (λ f. length (held f .rows) ≤ 2048) ⌝ }
     {
         if bytes.len() < 12 {
             return Err(Refusal::TooShort);

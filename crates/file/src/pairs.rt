@@ -1,7 +1,6 @@
 ghost use mathlib.Core.Path.{_≡_};
 ghost use Prim.Native.Nat.{_<_, _≤_};
 ghost use Rattle.file.specs.Form.{pairCount, offset, ending, textOf, misplaced, repeated, firstFrom};
-
 use crate::number::number_at;
 use text::bytes::same;
 

@@ -6,7 +6,6 @@ ghost use Rattle.std.specs.Options.{mapped};
 ghost use Rattle.std.specs.Vec.{made};
 ghost use Rattle.file.specs.Form.{pairCount, readTexts, textAt, Distinct};
 ghost use Rattle.file.specs.Texts.{texts, textsAnswer};
-
 use crate::pairs::first_misplaced;
 use crate::pairs::first_repeated;
 use crate::pairs::pair_count;

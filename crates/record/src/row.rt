@@ -10,6 +10,13 @@ pub struct Row {
     pub c: u32,
 }
 
+// A row with its place: the number of rows that its record had accepted before it.
+#[derive(Clone, Copy, PartialEq, Eq, Debug)]
+pub struct PlacedRow {
+    pub place: u32,
+    pub row: Row,
+}
+
 // The kinds of rows of a record.
 #[derive(Clone, Copy, PartialEq, Eq, Debug)]
 pub enum Kind {

@@ -1,6 +1,5 @@
 ghost use mathlib.Core.Path.{_≡_};
 ghost use Rattle.text.specs.Names.{inMC, inXML, isXmlPrefix, elementNamed, attributeNamed, isRequires, isInherited};
-
 use crate::bytes::same;
 
 // The namespace of markup compatibility.
@@ -12,11 +11,15 @@ pub const XML: &[u8] = b"http://www.w3.org/XML/1998/namespace";
 pub const XML_PREFIX: &[u8] = b"xml";
 
 pub const ALTERNATE_CONTENT: &[u8] = b"AlternateContent";
+
 pub const CHOICE: &[u8] = b"Choice";
+
 pub const FALLBACK: &[u8] = b"Fallback";
 
 pub const IGNORABLE: &[u8] = b"Ignorable";
+
 pub const PROCESS_CONTENT: &[u8] = b"ProcessContent";
+
 pub const MUST_UNDERSTAND: &[u8] = b"MustUnderstand";
 
 // The attribute without namespace that every Choice has.

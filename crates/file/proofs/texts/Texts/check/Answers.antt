@@ -21,4 +21,5 @@ returns c =
     record {
       answer = rw (sym (c .in-rest .ensures tt), sym (c .in-rest-first-repeated .ensures tt));
       distinct =
-        distinct-texts (c .args .pairs .now) (c .args .bytes .now) (ap (λ o. not (isSome o)) (sym (c .in-rest-first-repeated .ensures tt))) }
+          distinct-texts (c .args .pairs .now) (c .args .bytes .now) (ap (λ o. not (isSome o)) (sym (c .in-rest-first-repeated .ensures tt)));
+    }
