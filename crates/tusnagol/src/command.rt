@@ -1,7 +1,10 @@
 // What the words of a command line ask for.
 #[derive(Clone, Copy)]
 pub enum Command<'a> {
-    Inspect { record: &'a str, card: Option<&'a str> },
+    Inspect {
+        record: &'a str,
+        card: Option<&'a str>,
+    },
 }
 
 impl<'a> Command<'a> {

@@ -25,11 +25,18 @@ fn read<'a>(rt: &LibcRuntime, path: &'a str) -> Result<Vec<u8>, Failure<'a>> {
 }
 
 // Prints what a record file holds and, with a card, what the card says of it.
-pub fn inspect<'a>(rt: &LibcRuntime, record: &'a str, card: Option<&'a str>) -> Result<(), Failure<'a>> {
+pub fn inspect<'a>(
+    rt: &LibcRuntime,
+    record: &'a str,
+    card: Option<&'a str>,
+) -> Result<(), Failure<'a>> {
     let bytes = read(rt, record)?;
     let file = match File::check(bytes.as_slice()) {
         Ok(file) => file,
-        Err(refusal) => return Err(Failure::Refused { path: record, refusal }),
+        Err(refusal) => return Err(Failure::Refused {
+            path: record,
+            refusal,
+        }),
     };
     let texts = file.texts().count();
     let rows = file.row_count();

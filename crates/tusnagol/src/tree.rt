@@ -8,7 +8,6 @@ use record::row::Kind;
 use record::row::Row;
 use std::fmt;
 use std::io;
-use record::row::KindPartialEq;
 
 // The text of a number, or what is said where the file has none.
 #[derive(Clone, Copy)]
@@ -109,32 +108,58 @@ impl<'a> fmt::Display for Line<'a> as LineDisplay {
                 let text = self.quoted(self.row.a);
                 write!(f, "text {text}")
             }
-            Some(Kind::End) => f.write_str("end"),
-            None => self.write_unknown(f),
+            _ => self.write_unknown(f),
         }
     }
 }
 
-// The rows as an indented tree, each behind its place.
+// The rows as an indented tree, each behind its place. Rows that make no tree are shown as they stand.
 pub fn print_tree(rt: &LibcRuntime, file: &File<'_>) -> io::Result<()> {
     let texts = file.texts();
-    let mut depth = 0usize;
+    let mut open = Vec::new(rt.alloc());
     for place in 0..file.row_count() {
         let Some(row) = file.row(place) else {
             break;
         };
-        let kind = Kind::of(row.kind);
-        if kind == Some(Kind::End) {
-            depth = depth.saturating_sub(1);
-        }
         let line = Line { texts, row };
-        let indent = Indent(depth);
-        println!(rt, "{place:>6}  {indent}{line}")?;
-        if kind == Some(Kind::Start) {
-            depth = depth.saturating_add(1);
+        match Kind::of(row.kind) {
+            Some(Kind::Start) => {
+                print_row(rt, place, open.len(), &line)?;
+                open.push(line.name())?;
+            }
+            Some(Kind::End) => {
+                let element = open.pop();
+                print_row(rt, place, open.len(), &Close { element })?;
+            }
+            _ => print_row(rt, place, open.len(), &line)?,
         }
     }
     Ok(())
+}
+
+fn print_row<L: fmt::Display>(
+    rt: &LibcRuntime,
+    place: usize,
+    depth: usize,
+    line: &L,
+) -> io::Result<()> {
+    let indent = Indent(depth);
+    println!(rt, "{place:>6}  {indent}{line}")
+}
+
+// An end, with the element that it ends, if one is open.
+#[derive(Clone, Copy)]
+struct Close<'a> {
+    element: Option<Name<'a>>,
+}
+
+impl<'a> fmt::Display for Close<'a> as CloseDisplay {
+    fn fmt<W: fmt::Write>(&self, f: &mut fmt::Formatter<W>) -> fmt::Result {
+        match self.element {
+            Some(name) => write!(f, "end {name}"),
+            None => f.write_str("end of no element"),
+        }
+    }
 }
 
 // Two blanks for each level.

@@ -37,9 +37,11 @@ fn reason(number: u32) -> &'static str {
         1 => "the file has fewer than 12 bytes",
         2 => "the number of texts, rows or text bytes is outside its limits",
         3 => "the file's length is not the one that its counts give",
-        4 => "pair 0 is not (0, 0), or the text begins before the end of the one before or ends past the text bytes",
+        4 =>
+            "pair 0 is not (0, 0), or the text begins before the end of the one before or ends past the text bytes",
         5 => "the text has the bytes of an earlier one",
-        6 => "no row of a card: its kind, a number that names no text, or the name of markup compatibility",
+        6 =>
+            "no row of a card: its kind, a number that names no text, or the name of markup compatibility",
         7 => "begin or file with a record open, or another call with none",
         8 => "the record is spoilt",
         9 => "no row of a record: its kind, or a number that names no text",
@@ -49,10 +51,12 @@ fn reason(number: u32) -> &'static str {
         13 => "a 129th entry in scope",
         14 => "a malformed item, or Requires without one",
         15 => "a prefix that is not bound",
-        16 => "Ignorable names markup compatibility, or ProcessContent a namespace that is not ignorable",
+        16 =>
+            "Ignorable names markup compatibility, or ProcessContent a namespace that is not ignorable",
         17 => "a name that markup compatibility does not have",
         18 => "an attribute that the element may not have, or a Choice without Requires",
-        19 => "a branch or a child of AlternateContent out of place, or AlternateContent without a Choice",
+        19 =>
+            "a branch or a child of AlternateContent out of place, or AlternateContent without a Choice",
         20 => "an unwrapped element has xml:base, xml:lang or xml:space",
         21 => "the sheet has no room for the row",
         22 => "the record has a mismatch",
