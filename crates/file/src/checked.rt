@@ -80,7 +80,7 @@ impl<'a> File<'a> {
     pub fn row(&self, i: usize) -> Option<Row>
         ensures { λ r. ⌜ r ≡ nth (held (now (self .entry)) .rows) i ⌝ }
     {
-        if i >= self.rows.len() / 16 {
+        if i >= self.row_count() {
             return None;
         }
         Some(row_at(self.rows, i))

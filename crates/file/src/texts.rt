@@ -46,7 +46,7 @@ impl<'a> Texts<'a> {
         ensures { λ r. ⌜ mapped now r ≡ nth (texts (self .entry)) n ⌝ }
     {
         let k = n as usize;
-        if k >= pair_count(self.pairs) {
+        if k >= self.count() {
             return None;
         }
         Some(text_of(self.pairs, self.bytes, k))
