@@ -4,6 +4,7 @@ ghost use Prim.Native.Nat.{ℕ, _<_, _≤_};
 ghost use lib.ListN.{length};
 ghost use Rattle.std.specs.Options.{Cases as BySome};
 ghost use Rattle.items.specs.Items.{items};
+ghost use Rattle.items.specs.Unread.{unread};
 use crate::run::Run;
 
 // Reads the items of a list value one after the other.
@@ -14,24 +15,24 @@ pub struct Items<'a> {
 
 impl<'a> Items<'a> {
     pub fn of(value: &'a [u8]) -> Items<'a>
-        ensures { λ r. ⌜ now (r .rest) ≡ now (value .entry) ⌝ }
+        ensures { λ r. ⌜ unread r ≡ now (value .entry) ⌝ }
     {
         Items { rest: value }
     }
 
-    // What stands behind the items that were read.
-    pub fn rest(&self) -> &'a [u8]
-        ensures { λ r. ⌜ now r ≡ now (now (self .entry) .rest) ⌝ }
+    // How many bytes stand behind the items that were read.
+    pub fn left(&self) -> usize
+        ensures { λ r. ⌜ r ≡ length (unread (now (self .entry))) ⌝ }
     {
-        self.rest
+        self.rest.len()
     }
 
     // The next item, or nothing where only blanks are left. It lies in the value, and what is left lies behind it.
     pub fn next(&mut self) -> Option<&'a [u8]>
-        ensures item { λ r. ⌜ BySome r (items (now (now (self .entry) .rest)) ≡ []) (λ x. items (now (now (self .entry) .rest)) ≡ now x ∷ items (now (now (self .exit) .rest))) ⌝ }
-        ensures over { λ r. ⌜ BySome r (items (now (now (self .exit) .rest)) ≡ []) (λ _. Unit {0}) ⌝ }
-        ensures place { λ r. ⌜ BySome r (Unit {0}) (λ x. (gap : List ℕ) × (now (now (self .entry) .rest) ≡ gap ++ (now x ++ now (now (self .exit) .rest)))) ⌝ }
-        ensures less { λ r. ⌜ BySome r (length (now (now (self .exit) .rest)) ≤ length (now (now (self .entry) .rest))) (λ _. length (now (now (self .exit) .rest)) < length (now (now (self .entry) .rest))) ⌝ }
+        ensures item { λ r. ⌜ BySome r (items (unread (now (self .entry))) ≡ []) (λ x. items (unread (now (self .entry))) ≡ now x ∷ items (unread (now (self .exit)))) ⌝ }
+        ensures over { λ r. ⌜ BySome r (items (unread (now (self .exit))) ≡ []) (λ _. Unit {0}) ⌝ }
+        ensures place { λ r. ⌜ BySome r (Unit {0}) (λ x. (gap : List ℕ) × (unread (now (self .entry)) ≡ gap ++ (now x ++ unread (now (self .exit))))) ⌝ }
+        ensures less { λ r. ⌜ BySome r (length (unread (now (self .exit))) ≤ length (unread (now (self .entry)))) (λ _. length (unread (now (self .exit))) < length (unread (now (self .entry)))) ⌝ }
     {
         let (_, from) = self.rest.split_at(Run::Blanks.length(self.rest));
         let (item, rest) = from.split_at(Run::Item.length(from));
