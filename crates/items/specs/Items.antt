@@ -1,4 +1,4 @@
--- The items of a list value, and the two parts of an item of ProcessContent.
+-- The items of a list value, and the two parts of an item of ProcessContent: rule 2 of docs/RULES.md.
 use mathlib.Core.Bool.{Bool, true, false, not, cond, _&&_, _||_}
 use mathlib.Core.List.{List, [], _∷_}
 use Prim.Native.Nat.{ℕ}

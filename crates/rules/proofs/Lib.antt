@@ -1,0 +1,17 @@
+pub mod Members
+pub mod Names
+pub mod Stable
+pub mod Rows
+pub mod Rise
+pub mod Pairs
+pub mod Once
+pub mod Whole
+pub mod Understood
+pub mod Wider
+pub mod Causes
+pub mod Numbers
+pub mod Frames
+pub mod Judged
+pub mod Sealed
+pub mod Turns
+pub mod Firsts

@@ -1,0 +1,11 @@
+pub mod Elements
+pub mod Scope
+pub mod Steps
+pub mod Mismatches
+pub mod Faults
+pub mod Order
+pub mod Records
+pub mod Lists
+pub mod States
+pub mod Laws
+pub mod Open

@@ -1,0 +1,6 @@
+pub mod Case
+pub mod Eight
+pub mod Words
+pub mod Refused
+pub mod Matched
+pub mod Worked
