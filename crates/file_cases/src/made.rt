@@ -7,7 +7,7 @@ fn number(bytes: &mut Vec<u8>, n: u32) -> Result<(), AllocError> {
 }
 
 // A file with these pairs, rows and text bytes, right or wrong.
-pub fn made(
+pub(crate) fn made(
     heap: Global,
     pairs: &[(u32, u32)],
     rows: &[Row],
@@ -32,7 +32,12 @@ pub fn made(
 }
 
 // A file with so many texts, of two bytes each but the first, so many empty text rows, and so many bytes behind the texts.
-pub fn sized(heap: Global, texts: u32, rows: usize, tail: usize) -> Result<Vec<u8>, AllocError> {
+pub(crate) fn sized(
+    heap: Global,
+    texts: u32,
+    rows: usize,
+    tail: usize,
+) -> Result<Vec<u8>, AllocError> {
     let mut pairs = Vec::new(heap);
     let mut text = Vec::new(heap);
     for k in 0..texts {

@@ -8,7 +8,7 @@ pub enum Command<'a> {
 }
 
 impl<'a> Command<'a> {
-    pub fn of(words: &'a [String]) -> Option<Command<'a>> {
+    pub(crate) fn of(words: &'a [String]) -> Option<Command<'a>> {
         if words.len() < 2 || words[0].as_str() != "inspect" {
             return None;
         }

@@ -38,7 +38,7 @@ pub impl<'a> fmt::Display for Failure<'a> as FailureDisplay {
 
 impl<'a> Failure<'a> {
     // A refusal is an answer about the file and goes to standard output; anything else is an error.
-    pub fn tell(&self, rt: &LibcRuntime) -> io::Result<()> {
+    pub(crate) fn tell(&self, rt: &LibcRuntime) -> io::Result<()> {
         if let Failure::Refused { .. } = self {
             return println!(rt, "{self}");
         }

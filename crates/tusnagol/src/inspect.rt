@@ -25,7 +25,7 @@ fn read<'a>(rt: &LibcRuntime, path: &'a str) -> Result<Vec<u8>, Failure<'a>> {
 }
 
 // Prints what a record file holds and, with a card, what the card says of it.
-pub fn inspect<'a>(
+pub(crate) fn inspect<'a>(
     rt: &LibcRuntime,
     record: &'a str,
     card: Option<&'a str>,

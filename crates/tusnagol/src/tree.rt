@@ -114,7 +114,7 @@ impl<'a> fmt::Display for Line<'a> as LineDisplay {
 }
 
 // The rows as an indented tree, each behind its place. Rows that make no tree are shown as they stand.
-pub fn print_tree(rt: &LibcRuntime, file: &File<'_>) -> io::Result<()> {
+pub(crate) fn print_tree(rt: &LibcRuntime, file: &File<'_>) -> io::Result<()> {
     let texts = file.texts();
     let mut open = Vec::new(rt.alloc());
     for place in 0..file.row_count() {
