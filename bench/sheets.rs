@@ -132,8 +132,11 @@ fn read_rows(sheet: &Plain) -> u64 {
 #[inline(never)]
 fn plain_put(rounds: u32) -> u64 {
     let mut sum: u64 = 0;
-    for _ in 0..rounds {
-        sum = sum.wrapping_add(put_rows(&mut Plain::new(2048)) as u64);
+    for round in 0..rounds {
+        let mut sheet = Plain::new(2048);
+        let count = put_rows(&mut sheet) as u64;
+        let place = sheet.row((round % ROWS) as usize).map_or(0, |placed| u64::from(placed.place));
+        sum = sum.wrapping_add(count.wrapping_add(place));
     }
     sum
 }

@@ -112,6 +112,8 @@ alternatives =
     ∷ kept reading (p:r ∷ bind-mc ∷ alternate ∷ choice ∷ requires mc ∷ text words ∷ end ∷ end ∷ end ∷ []) (0 ∷ 8 ∷ []) 2
     -- a Choice's own declaration
     ∷ kept reading (p:r ∷ alternate ∷ choice ∷ bind-p ∷ requires p ∷ text words ∷ end ∷ end ∷ end ∷ []) (0 ∷ 5 ∷ 8 ∷ []) 3
+    -- which counts before one around it
+    ∷ kept reading (p:r ∷ bind-p ∷ alternate ∷ choice ∷ declare p urn:q ∷ requires p ∷ text words ∷ end ∷ end ∷ end ∷ []) (0 ∷ 1 ∷ 9 ∷ []) 3
     -- a text directly in AlternateContent
     ∷ kept reading (p:r ∷ bind-p ∷ alternate ∷ text words ∷ choice ∷ requires p ∷ end ∷ end ∷ end ∷ []) (0 ∷ 1 ∷ 8 ∷ []) 3
     -- alternatives in a selected Fallback
@@ -135,6 +137,9 @@ scopes =
     ∷ kept reading (p:r ∷ bind-q ∷ p:W ∷ declare q urn:s ∷ ignorable q ∷ s:W ∷ end ∷ end ∷ end ∷ []) (0 ∷ 1 ∷ 2 ∷ 7 ∷ 8 ∷ []) 5
     -- Ignorable ends with its element
     ∷ reading (p:r ∷ p:W ∷ bind-s ∷ ignorable s ∷ end ∷ s:W ∷ end ∷ end ∷ []) (refuses (Mismatch 5 ForeignName))
+    -- ProcessContent names a namespace and a local name: another local name, another namespace
+    ∷ kept reading (p:r ∷ bind-q ∷ ignorable q ∷ process q:W ∷ q:X ∷ text words ∷ end ∷ end ∷ []) (0 ∷ 7 ∷ []) 2
+    ∷ kept reading (p:r ∷ bind-q ∷ bind-s ∷ ignorable spread ∷ process q:W ∷ s:W ∷ text words ∷ end ∷ end ∷ []) (0 ∷ 8 ∷ []) 2
     -- the default prefix, for no namespace, for one, for an ignorable one
     ∷ all-kept reading (start none r ∷ declare none none ∷ end ∷ []) 3
     ∷ all-kept reading (p:r ∷ declare none urn:q ∷ end ∷ []) 3

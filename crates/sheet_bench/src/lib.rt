@@ -73,22 +73,32 @@ fn read_rows<R: Readable>(readable: &R) -> u64 {
     sum
 }
 
-fn put_flat(entries: &mut [PlacedRow]) -> usize {
-    let mut sheet = FlatSheet::new(entries);
-    put_rows(&mut sheet)
+fn place_at<R: Readable>(readable: &R, n: u32) -> u64 {
+    match readable.row(n as usize) {
+        Some(placed) => u64::from(placed.place),
+        None => 0,
+    }
 }
 
-fn put_outline(entries: &mut [Entry]) -> usize {
+// One round of puts, and a look at one row, so that no put can be left out.
+fn put_flat(entries: &mut [PlacedRow], round: u32) -> u64 {
+    let mut sheet = FlatSheet::new(entries);
+    let count = put_rows(&mut sheet) as u64;
+    count.wrapping_add(place_at(&sheet, round % ROWS))
+}
+
+fn put_outline(entries: &mut [Entry], round: u32) -> u64 {
     let mut sheet = Outline::new(entries);
-    put_rows(&mut sheet)
+    let count = put_rows(&mut sheet) as u64;
+    count.wrapping_add(place_at(&sheet, round % ROWS))
 }
 
 #[unsafe(no_mangle)]
 pub extern "C" fn flat_put(rounds: u32) -> u64 {
     let mut entries = [ROW; 2048];
     let mut sum: u64 = 0;
-    for _round in 0..rounds {
-        sum = sum.wrapping_add(put_flat(&mut entries) as u64);
+    for round in 0..rounds {
+        sum = sum.wrapping_add(put_flat(&mut entries, round));
     }
     sum
 }
@@ -97,8 +107,8 @@ pub extern "C" fn flat_put(rounds: u32) -> u64 {
 pub extern "C" fn outline_put(rounds: u32) -> u64 {
     let mut entries = [ENTRY; 2048];
     let mut sum: u64 = 0;
-    for _round in 0..rounds {
-        sum = sum.wrapping_add(put_outline(&mut entries) as u64);
+    for round in 0..rounds {
+        sum = sum.wrapping_add(put_outline(&mut entries, round));
     }
     sum
 }
