@@ -1,4 +1,6 @@
 // Cards: the files that say what a reader knows.
+#![tactic(auto)]
+
 pub mod checked;
 pub mod extensions;
 pub mod known;

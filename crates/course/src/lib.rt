@@ -1,4 +1,6 @@
 // The course of a record: how far it has come, and what has been judged of it, in fixed memory.
+#![tactic(auto)]
+
 use enter::in_scope::InScope;
 use frames::frame::Frame;
 use order::progress::Progress;

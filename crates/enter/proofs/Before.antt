@@ -1,6 +1,6 @@
 -- What was in scope before: the eldest entries.
 use Rattle.std.proofs.Common.{◌≡◌, ℕ, ◌+◌, ◌-◌, ◌≤◌, List, [], ◌∷◌, ◌++◌, map, reverse, length, take, drop, sym, refl, ap, ◌∙◌, arith}
-use Rattle.std.proofs.lemmas.List.{map_append, reverse-append, length-map, length-reverse, length-append, length-drop, take-append-drop, drop_at, drop-drop}
+use Rattle.std.proofs.lemmas.List.{map-append, reverse-append, length-map, length-reverse, length-append, length-drop, take-append-drop, drop_at, drop-drop}
 use Rattle.text.specs.Bytes.{Bytes}
 use Rattle.rules.specs.Elements.{Tag}
 use Rattle.rules.specs.Scope.{Scope, scope_with, bindings_with, ignorables_with, processed_with}
@@ -17,7 +17,7 @@ pub eldest_meant : {X Y : Type 0} (f : X → Y) (n : ℕ) (xs : List X) → reve
 unfolding eldest
 eldest_meant {X} {Y} f n xs =
     let e : reverse (map f xs) ≡ reverse (map f (drop n xs)) ++ reverse (map f (take n xs)) =
-    ap (λ (l : List X). reverse (map f l)) (sym (take-append-drop n xs)) ∙ ap reverse (map_append f (take n xs) (drop n xs))
+    ap (λ (l : List X). reverse (map f l)) (sym (take-append-drop n xs)) ∙ ap reverse (map-append f (take n xs) (drop n xs))
     ∙ reverse-append (map f (take n xs)) (map f (drop n xs)) in
     let k : length (reverse (map f (drop n xs))) ≡ length (reverse (map f xs)) - n = simp (length-reverse, length-map, length-drop) in
     sym (ap (drop (length (reverse (map f xs)) - n)) e ∙ drop_at (reverse (map f (drop n xs))) (reverse (map f (take n xs))) _ k)

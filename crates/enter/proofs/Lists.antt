@@ -1,7 +1,7 @@
 -- The declarations and lists of an element: the first of their faults, and the entries that they make.
 use Rattle.std.proofs.Common.{◌≡◌, ℕ, ◌+◌, ltb, List, [], ◌∷◌, ◌++◌, map, reverse, length, IfOk, Some, None, Ok, Err, Option, Result, sym, refl, ap, ◌∙◌, ap₂, append_assoc, arith}
 use Rattle.std.specs.Option.{option_or}
-use Rattle.std.proofs.lemmas.List.{map_append, reverse-append, length-map, length-reverse, length-append}
+use Rattle.std.proofs.lemmas.List.{map-append, reverse-append, length-map, length-reverse, length-append}
 use Rattle.text.specs.Bytes.{Bytes}
 use Rattle.record.specs.declared.refusal.Refusal.{Refusal}
 use Rattle.record.specs.declared.refusal.Refusal.TheVariants.{ScopeFull}
@@ -69,7 +69,7 @@ module _ (texts : List Bytes) where
     unfolding bindings_of bindings_with
     bindings-entered bs es d q =
         ap (λ (l : List Bound). reverse (map (entries.binding_of texts) l)) (q ∙ d)
-        ∙ ap reverse (map_append (entries.binding_of texts) xs (map bound_of e.decls.now))
+        ∙ ap reverse (map-append (entries.binding_of texts) xs (map bound_of e.decls.now))
         ∙ reverse-append (map (entries.binding_of texts) xs) (map (entries.binding_of texts) (map bound_of e.decls.now))
         ∙ ap (λ (l : List Binding). reverse l ++ reverse (map (entries.binding_of texts) xs)) (bindings_meant e.decls.now)
 

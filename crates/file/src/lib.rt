@@ -1,4 +1,6 @@
 // Record files: the check of their form, their texts and their rows.
+#![tactic(auto)]
+
 pub mod checked;
 mod number;
 mod pairs;

@@ -1,4 +1,6 @@
 // A sheet with an entry for each row.
+#![tactic(auto)]
+
 ghost use Rattle.roll.specs.Rolls.{items};
 ghost use Rattle.sheet.specs.Tails.{Drafted};
 

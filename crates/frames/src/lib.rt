@@ -1,4 +1,6 @@
 // What is known of each open element, and what a start opens.
+#![tactic(auto)]
+
 pub mod frame;
 pub mod judged;
 pub mod marks;

@@ -1,6 +1,6 @@
 -- Declarations as entries, one more each turn; an attribute that was found.
 use Rattle.std.proofs.Common.{◌≡◌, ℕ, ◌+◌, ◌<◌, ◌≤◌, List, [], ◌∷◌, ◌++◌, map, length, get_or, take, is_some, Some, None, Option, sym, refl, ap, ◌∙◌, append_assoc, arith}
-use Rattle.std.proofs.lemmas.List.{length-append, length-map, length-take-le, length-take, take_more, take_all, map_append}
+use Rattle.std.proofs.lemmas.List.{length-append, length-map, length-take-le, length-take, take_more, take_all, map-append}
 use Rattle.std.specs.Option.{option_map}
 use Rattle.record.specs.declared.row.PlacedRow.{PlacedRow}
 use Rattle.scope.specs.declared.entries.Bound.{Bound}
@@ -15,7 +15,7 @@ pub bound-more : (xs ys zs : List Bound) (ds : List PlacedRow) (i : ℕ) (d : Pl
 bound-more xs ys zs ds i d lt e f =
     f ∙ ap (λ (t : List Bound). t ++ bound_of (get_or ds i d) ∷ []) e
     ∙ append_assoc xs (map bound_of (take i ds)) (bound_of (get_or ds i d) ∷ [])
-    ∙ ap (λ (t : List Bound). xs ++ t) (sym (map_append bound_of (take i ds) (get_or ds i d ∷ [])) ∙ ap (map bound_of) (sym (take_more ds i d lt)))
+    ∙ ap (λ (t : List Bound). xs ++ t) (sym (map-append bound_of (take i ds) (get_or ds i d ∷ [])) ∙ ap (map bound_of) (sym (take_more ds i d lt)))
 
 pub bound_all : (xs ys : List Bound) (ds : List PlacedRow) (i : ℕ) → length ds ≤ i → ys ≡ xs ++ map bound_of (take i ds) → ys ≡ xs ++ map bound_of ds
 bound_all xs ys ds i le e = e ∙ ap (λ (t : List PlacedRow). xs ++ map bound_of t) (take_all i ds le)

@@ -1,4 +1,6 @@
 // What a reader knows: a yes or no for every byte string.
+#![tactic(auto)]
+
 ghost use Rattle.std.specs.Prelude.{◌≡◌, Bool, ◌||◌, List, ℕ};
 ghost use Rattle.knowledge.specs.Understood.{is_understood};
 

@@ -1,6 +1,6 @@
 -- What an element that waits holds: tests of its rows, and one row more.
 use Rattle.std.proofs.Common.{◌≡◌, ℕ, ◌<◌, Bool, true, false, cond, eqb, ltb, leb, List, [], ◌∷◌, ◌++◌, map, length, refl, ap, ◌∙◌, arith}
-use Rattle.std.proofs.lemmas.List.{length-map, map_append}
+use Rattle.std.proofs.lemmas.List.{length-map, map-append}
 use Rattle.std.proofs.lemmas.Bool.{leb-false, lt-ltb, cond-true}
 use Rattle.text.specs.Bytes.{Bytes}
 use Rattle.record.specs.declared.row.PlacedRow.{PlacedRow}
@@ -24,7 +24,7 @@ module _ (ts : List Bytes) (start : PlacedRow) (row : PlacedRow) (room : Bool) w
   decl_held false ds es xs er ee few = refl
   decl_held true ds es xs er ee few =
       ap (λ (l : List PlacedRow). tag (tag_from ts start l xs) ∷ []) (roomy ds es row room _ (length-map ds (decl_of ts)) few er ee)
-      ∙ ap (λ (l : List Decl). tag (record { placed = start; namespace = (tag_from ts start ds xs).namespace; name = (tag_from ts start ds xs).name; decls = l; attrs = map (attr_of ts) xs }) ∷ []) (map_append (decl_of ts) ds (row ∷ []))
+      ∙ ap (λ (l : List Decl). tag (record { placed = start; namespace = (tag_from ts start ds xs).namespace; name = (tag_from ts start ds xs).name; decls = l; attrs = map (attr_of ts) xs }) ∷ []) (map-append (decl_of ts) ds (row ∷ []))
 
   pub attr_held : (b : Bool) (ds : List PlacedRow) (xs ys : List PlacedRow)
       → room ≡ ltb (length xs) 32 → ys ≡ cond room (xs ++ row ∷ []) xs
@@ -34,7 +34,7 @@ module _ (ts : List Bytes) (start : PlacedRow) (row : PlacedRow) (room : Bool) w
   attr_held false ds xs ys er ee few = refl
   attr_held true ds xs ys er ee few =
       ap (λ (l : List PlacedRow). tag (tag_from ts start ds l) ∷ []) (roomy xs ys row room _ (length-map xs (attr_of ts)) few er ee)
-      ∙ ap (λ (l : List Attr). tag (record { placed = start; namespace = (tag_from ts start ds xs).namespace; name = (tag_from ts start ds xs).name; decls = map (decl_of ts) ds; attrs = l }) ∷ []) (map_append (attr_of ts) xs (row ∷ []))
+      ∙ ap (λ (l : List Attr). tag (record { placed = start; namespace = (tag_from ts start ds xs).namespace; name = (tag_from ts start ds xs).name; decls = map (decl_of ts) ds; attrs = l }) ∷ []) (map-append (attr_of ts) xs (row ∷ []))
 
 pub no_attrs : (ts : List Bytes) (xs : List PlacedRow) → has_no_attrs (map (attr_of ts) xs) ≡ eqb (length xs) 0
 unfolding has_no_attrs

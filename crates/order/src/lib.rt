@@ -1,4 +1,6 @@
 // How far a record has come, and which row may come next.
+#![tactic(auto)]
+
 mod form;
 pub mod progress;
 mod repeat;

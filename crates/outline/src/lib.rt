@@ -1,4 +1,6 @@
 // A sheet that keeps no entry for an end.
+#![tactic(auto)]
+
 ghost use Rattle.std.specs.Prelude.{◌^◌, ◌<◌, ◌≤◌, T, length, take, None};
 ghost use Rattle.roll.specs.Rolls.{items, slot_count};
 ghost use Rattle.sheet.specs.Tails.{Drafted};

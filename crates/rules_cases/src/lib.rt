@@ -1,4 +1,6 @@
 // Records, each with the outcome that the rules give it, worked out by hand.
+#![tactic(auto)]
+
 ghost use Rattle.rules_cases.specs.Eight.{EightAsStated};
 ghost use Rattle.rules_cases.specs.Worked.{WorkedAsStated};
 

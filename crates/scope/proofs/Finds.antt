@@ -1,6 +1,6 @@
 -- The one search, over entries and over what they mean.
 use Rattle.std.proofs.Common.{◌≡◌, ℕ, ◌+◌, ◌-◌, ◌<◌, ◌≤◌, Bool, true, false, cond, List, [], ◌∷◌, ◌++◌, map, reverse, length, get_or, take, is_some, Some, None, Option, sym, refl, ap, ◌∙◌, arith}
-use mathlib.Core.List.{map_append}
+use mathlib.Core.List.{map-append}
 use Rattle.std.specs.Option.{option_map}
 use Rattle.std.proofs.lemmas.List.{take_more, reverse-append}
 use Rattle.rules.specs.Scope.{first_with}
@@ -30,7 +30,7 @@ reverse-map : {E X : Type 0} (f : E → X) (xs : List E) → reverse (map f xs) 
 reverse-map f [] = refl
 reverse-map {E} {X} f (x ∷ xs) =
     reverse-append (f x ∷ []) (map f xs) ∙ ap (λ (l : List X). l ++ f x ∷ []) (reverse-map f xs)
-    ∙ sym (map_append f (reverse xs) (x ∷ [])) ∙ ap (map f) (sym (reverse-append (x ∷ []) xs))
+    ∙ sym (map-append f (reverse xs) (x ∷ [])) ∙ ap (map f) (sym (reverse-append (x ∷ []) xs))
 
 pub first_meant : {E X : Type 0} (f : E → X) (test : X → Bool) (xs : List E) → first_with test (reverse (map f xs)) ≡ option_map f (first_with (λ e. test (f e)) (reverse xs))
 first_meant {E} {X} f test xs = ap (first_with test) (reverse-map f xs) ∙ first-map f test (reverse xs)

@@ -1,4 +1,6 @@
 // Where a reader puts what it keeps. Anyone may write a sheet: code over any sheet rests on these contracts alone.
+#![tactic(auto)]
+
 ghost use Rattle.std.specs.Prelude.{◌≡◌, ℕ, T, List, length};
 ghost use Rattle.std.specs.List.{slice_get};
 ghost use Rattle.record.specs.declared.row.PlacedRow.{PlacedRow};

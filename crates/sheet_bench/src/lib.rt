@@ -1,4 +1,6 @@
 // The sheets as a static library, for bench/: each call puts or reads a record of 2,048 rows so many times.
+#![tactic(auto)]
+
 use flat::FlatSheet;
 use outline::Outline;
 use outline::entry::{Entry, Span};

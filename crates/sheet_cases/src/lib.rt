@@ -1,4 +1,6 @@
 // Both sheets on the same cases, through code that knows neither.
+#![tactic(auto)]
+
 ghost use Rattle.std.specs.Prelude.{◌≡◌, T, length};
 ghost use Rattle.std.specs.List.{slice_get};
 ghost use Rattle.sheet.specs.Rows.{pairs};

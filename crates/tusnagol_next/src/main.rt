@@ -1,4 +1,6 @@
 // Reads pump test records from the command line.
+#![tactic(auto)]
+
 mod certificate;
 mod chart;
 mod command;

@@ -1,4 +1,6 @@
 // What a knowledge says of the texts of a record, each asked once.
+#![tactic(auto)]
+
 ghost use Rattle.std.specs.Prelude.{◌≡◌, length};
 
 pub mod ask;

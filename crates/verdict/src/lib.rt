@@ -1,4 +1,6 @@
 // What is decided of an element that passed its trial, by the answers of a knowledge for the texts of its record.
+#![tactic(auto)]
+
 pub mod mismatch;
 pub mod put;
 pub mod required;

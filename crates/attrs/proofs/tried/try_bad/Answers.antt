@@ -18,5 +18,5 @@ returns-in-Some c =
 pub returns : goal.returns
 unfolding attr_of bad_attrs
 returns c =
-    ap (option_map (λ (x : Attr). BadAttribute x.placed.place)) c.in-default.ensures
+    ap (option_map (λ (x : Attr). BadAttribute x.placed.place)) c.in_default.ensures
     ∙ sym (first_of (is_bad_attr (ignorables_of (texts c.args.lent) c.args.marks.now) c.args.choice) BadAttribute (bad_attrs (ignorables_of (texts c.args.lent) c.args.marks.now) c.args.choice) refl (λ x xs. refl) (map (attr_of (texts c.args.lent)) c.args.attrs.now))

@@ -17,5 +17,5 @@ returns-in-Some c =
 pub returns : goal.returns
 unfolding attr_of attr_name_faults
 returns c =
-    ap (option_map (λ (x : Attr). UnknownName x.placed.place)) c.in-default.ensures
+    ap (option_map (λ (x : Attr). UnknownName x.placed.place)) c.in_default.ensures
     ∙ sym (first_of (λ (x : Attr). in_mc x.namespace && not (is_some (attribute_named x.name))) UnknownName attr_name_faults refl (λ x xs. refl) (map (attr_of (texts c.args.lent)) c.args.attrs.now))

@@ -24,6 +24,6 @@ returns-in-Some c =
 pub returns : goal.returns
 unfolding attr_of xml_faults
 returns c =
-    ap (option_map (λ (x : Attr). XmlAttribute x.placed.place)) c.in-default.ensures
+    ap (option_map (λ (x : Attr). XmlAttribute x.placed.place)) c.in_default.ensures
     ∙ sym (first_of (λ (x : Attr). in_xml x.namespace && is_inherited x.name) XmlAttribute (xml_faults true) refl (λ x xs. refl) (map (attr_of (texts c.args.lent)) c.args.attrs.now))
     ∙ ap (λ u. first (xml_faults u (map (attr_of (texts c.args.lent)) c.args.attrs.now))) (sym c.if-not-unwrapped.false)

@@ -14,6 +14,6 @@ pub returns-in-23 : goal.returns-in-23
 unfolding right_row
 returns-in-23 c = search rules
 
-pub returns-in-default : goal.returns-in-default
+pub returns-in_default : goal.returns-in_default
 unfolding right_row
-returns-in-default c = search rules
+returns-in_default c = search rules

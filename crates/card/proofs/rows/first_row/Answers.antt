@@ -3,8 +3,8 @@ use Rattle.file.specs.Files.{held}
 use Rattle.card.proofs.Finds.{first_turn, first_over, nth_over}
 use Rattle.card.proofs.rows.first_row.Goals as goal
 
-pub returns-in-default : goal.returns-in-default
-returns-in-default g c = absurd (omega (arith, nth_over (held c.args.file.now).rows c.loop-i.i (sym c.in-default.ensures)))
+pub returns-in_default : goal.returns-in_default
+returns-in_default g c = absurd (omega (arith, nth_over (held c.args.file.now).rows c.loop-i.i (sym c.in_default.ensures)))
 
 pub returns-then-test : goal.returns-then-test
 returns-then-test g c =

@@ -11,7 +11,7 @@ use Rattle.course.proofs.Course.close.Goals as goal
 pub returns : goal.returns
 returns c =
     let xs = held c.args.self.now.frames in
-    let n : c.saturating-sub.result ≡ length xs - 1 = omega arith in
+    let n : c.saturating_sub.result ≡ length xs - 1 = omega arith in
     let left : reverse (held c.cut.new.self) ≡ tail (reverse xs) =
     ap reverse (c.cut.ensures ∙ ap (λ k. take k xs) n) ∙ without_last xs in
     let lengths : c.innermost.result.lengths ≡ (innermost (tail (reverse xs))).lengths =

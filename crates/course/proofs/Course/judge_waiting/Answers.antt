@@ -7,39 +7,39 @@ use Rattle.frames.specs.Lists.{extension_list}
 use Rattle.course.proofs.Waited.{waited_none, waited_refused, waited_unput, waited_opened}
 use Rattle.course.proofs.Course.judge_waiting.Goals as goal
 
-pub returns-in-default : goal.returns-in-default
-returns-in-default g c =
+pub returns-in_default : goal.returns-in_default
+returns-in_default g c =
     record {
       waited = λ knows rows h.
           waited_none (taken (texts c.args.lent) knows (extension_list c.args.extensions)) rows c.args.self.now h _
-          (sym h.follows.waits ∙ c.in-default.ensures (texts c.args.lent));
+          (sym h.follows.waits ∙ c.in_default.ensures (texts c.args.lent));
       known = search rules;
       progress = search rules;
       frames = search rules;
       mismatch = search rules;
     }
 
-pub returns-in-err-opened : goal.returns-in-err-opened
-returns-in-err-opened g c =
-    let p = err_from_is_err_and c.from-residual.result c.from-residual.ensures.1 in
+pub returns-in_err-opened : goal.returns-in_err-opened
+returns-in_err-opened g c =
+    let p = err_from_is_err_and c.from_residual.result c.from_residual.ensures.1 in
     record {
       waited = λ knows rows h.
           waited_refused (taken (texts c.args.lent) knows (extension_list c.args.extensions)) rows c.args.self.now h (tag_of (texts c.args.lent) c.in-Some.element) (sym h.follows.waits ∙ c.in-Some.ensures (texts c.args.lent)) c.innermost-around.result c.innermost-around.ensures _ _ _
-          c.from-residual.result c.in-err-opened.field-0.0 (p.1 ∙ ap Err p.2) (c.in-err-opened.ensures.answer knows h.knowing) refl;
+          c.from_residual.result c.in_err-opened.field-0.0 (p.1 ∙ ap Err p.2) (c.in_err-opened.ensures.answer knows h.knowing) refl;
       known = search rules;
       progress = search rules;
       frames = search rules;
       mismatch = search rules;
     }
 
-pub returns-in-err-put-kept : goal.returns-in-err-put-kept
-returns-in-err-put-kept g c =
-    let p = err_from_is_err_and c.from-residual-in-err-put-kept.result c.from-residual-in-err-put-kept.ensures.1 in
+pub returns-in_err-put_kept : goal.returns-in_err-put_kept
+returns-in_err-put_kept g c =
+    let p = err_from_is_err_and c.from_residual-in_err-put_kept.result c.from_residual-in_err-put_kept.ensures.1 in
     record {
       waited = λ knows rows h.
           waited_unput (taken (texts c.args.lent) knows (extension_list c.args.extensions)) rows c.args.self.now h (tag_of (texts c.args.lent) c.in-Some.element) (sym h.follows.waits ∙ c.in-Some.ensures (texts c.args.lent)) c.innermost-around.result c.innermost-around.ensures _ _ _
-          c.in-ok-opened.opened (c.in-ok-opened.ensures.answer knows h.knowing) (c.in-ok-opened.ensures.opens knows h.knowing) c.in-ok-opened.ensures.grown
-          c.from-residual-in-err-put-kept.result c.in-err-put-kept.field-0.0 (p.1 ∙ ap Err p.2) (c.in-err-put-kept.ensures knows h.knowing);
+          c.in_ok-opened.opened (c.in_ok-opened.ensures.answer knows h.knowing) (c.in_ok-opened.ensures.opens knows h.knowing) c.in_ok-opened.ensures.grown
+          c.from_residual-in_err-put_kept.result c.in_err-put_kept.field-0.0 (p.1 ∙ ap Err p.2) (c.in_err-put_kept.ensures knows h.knowing);
       known = search rules;
       progress = search rules;
       frames = search rules;
@@ -51,8 +51,8 @@ returns g c =
     record {
       waited = λ knows rows h.
           waited_opened (taken (texts c.args.lent) knows (extension_list c.args.extensions)) rows c.args.self.now h (tag_of (texts c.args.lent) c.in-Some.element) (sym h.follows.waits ∙ c.in-Some.ensures (texts c.args.lent)) c.innermost-around.result c.innermost-around.ensures _ _ _
-          c.in-ok-opened.opened (c.in-ok-opened.ensures.answer knows h.knowing) (c.in-ok-opened.ensures.opens knows h.knowing) c.in-ok-opened.ensures.grown
-          (c.in-ok-put-kept.ensures knows h.knowing);
+          c.in_ok-opened.opened (c.in_ok-opened.ensures.answer knows h.knowing) (c.in_ok-opened.ensures.opens knows h.knowing) c.in_ok-opened.ensures.grown
+          (c.in_ok-put_kept.ensures knows h.knowing);
       known = search rules;
       progress = search rules;
       frames = search rules;

@@ -6,43 +6,43 @@ use Rattle.frames.specs.Lists.{extension_list}
 use Rattle.course.proofs.Judging.{taken_plain, taken_unwaited, taken_unput, taken-row, closed-frames, closed-scope, closed-mark}
 use Rattle.course.proofs.Course.settle.Goals as goal
 
-pub returns-then-is-of-tag : goal.returns-then-is-of-tag
-returns-then-is-of-tag g c =
+pub returns-then-is_of_tag : goal.returns-then-is_of_tag
+returns-then-is_of_tag g c =
     record {
       judged = λ knows rows h k here f.
           taken_plain (taken (texts c.args.lent) knows (extension_list c.args.extensions)) rows c.args.row c.args.kind k here _ c.args.self.now h
-          (sym c.is-of-tag.ensures ∙ c.if-is-of-tag.true);
+          (sym c.is_of_tag.ensures ∙ c.if-is_of_tag.true);
       known = search rules;
       progress = search rules;
     }
 
-pub returns-in-err-opened : goal.returns-in-err-opened
-returns-in-err-opened g c =
-    let p = err_from_is_err_and c.from-residual.result c.from-residual.ensures.1 in
+pub returns-in_err-opened : goal.returns-in_err-opened
+returns-in_err-opened g c =
+    let p = err_from_is_err_and c.from_residual.result c.from_residual.ensures.1 in
     record {
       judged = λ knows rows h k here f.
           taken_unwaited (taken (texts c.args.lent) knows (extension_list c.args.extensions)) rows c.args.row c.args.kind k here _ c.args.self.now
-          c.judge-waiting.new.self _ c.judge-waiting.ensures.frames c.judge-waiting.ensures.mismatch
-          c.judge-waiting.result c.in-err-opened.field-0.0 c.from-residual.result (sym c.is-of-tag.ensures ∙ c.if-is-of-tag.false)
-          c.in-err-opened.was (p.1 ∙ ap Err p.2) (c.judge-waiting.ensures.waited knows rows h);
-      known = c.judge-waiting.ensures.known;
-      progress = c.judge-waiting.ensures.progress;
+          c.judge_waiting.new.self _ c.judge_waiting.ensures.frames c.judge_waiting.ensures.mismatch
+          c.judge_waiting.result c.in_err-opened.field-0.0 c.from_residual.result (sym c.is_of_tag.ensures ∙ c.if-is_of_tag.false)
+          c.in_err-opened.was (p.1 ∙ ap Err p.2) (c.judge_waiting.ensures.waited knows rows h);
+      known = c.judge_waiting.ensures.known;
+      progress = c.judge_waiting.ensures.progress;
     }
 
-pub returns-in-err-judge-row : goal.returns-in-err-judge-row
-returns-in-err-judge-row g c =
-    let p = err_from_is_err_and c.from-residual-in-err-judge-row.result c.from-residual-in-err-judge-row.ensures.1 in
+pub returns-in_err-judge_row : goal.returns-in_err-judge_row
+returns-in_err-judge_row g c =
+    let p = err_from_is_err_and c.from_residual-in_err-judge_row.result c.from_residual-in_err-judge_row.ensures.1 in
     record {
       judged = λ knows rows h k here f.
           taken_unput (taken (texts c.args.lent) knows (extension_list c.args.extensions)) rows c.args.row c.args.kind k here _ c.args.self.now
-          c.judge-waiting.new.self _ c.judge-waiting.ensures.frames c.judge-waiting.ensures.mismatch
-          c.judge-waiting.result c.in-ok-opened.opened c.in-ok-opened.was (c.judge-waiting.ensures.waited knows rows h)
-          (sym c.is-of-tag.ensures ∙ c.if-is-of-tag.false)
-          c.around.result c.around.ensures _ c.judge-row.result c.judge-row.ensures
-          c.judge-waiting.new.self c.from-residual-in-err-judge-row.result c.in-err-judge-row.field-0.0
-          c.in-err-judge-row.was (p.1 ∙ ap Err p.2) c.judge-waiting.ensures.frames c.judge-waiting.ensures.mismatch refl;
-      known = c.judge-waiting.ensures.known;
-      progress = c.judge-waiting.ensures.progress;
+          c.judge_waiting.new.self _ c.judge_waiting.ensures.frames c.judge_waiting.ensures.mismatch
+          c.judge_waiting.result c.in_ok-opened.opened c.in_ok-opened.was (c.judge_waiting.ensures.waited knows rows h)
+          (sym c.is_of_tag.ensures ∙ c.if-is_of_tag.false)
+          c.around.result c.around.ensures _ c.judge_row.result c.judge_row.ensures
+          c.judge_waiting.new.self c.from_residual-in_err-judge_row.result c.in_err-judge_row.field-0.0
+          c.in_err-judge_row.was (p.1 ∙ ap Err p.2) c.judge_waiting.ensures.frames c.judge_waiting.ensures.mismatch refl;
+      known = c.judge_waiting.ensures.known;
+      progress = c.judge_waiting.ensures.progress;
     }
 
 pub returns : goal.returns
@@ -50,24 +50,24 @@ returns g c =
     record {
       judged = λ knows rows h k here f.
           let t : Taken = taken (texts c.args.lent) knows (extension_list c.args.extensions) in
-          let w = c.judge-waiting.ensures.waited knows rows h in
+          let w = c.judge_waiting.ensures.waited knows rows h in
           taken-row t rows c.args.row c.args.kind k here _ c.args.self.now
-          c.judge-waiting.new.self _ c.judge-waiting.ensures.frames c.judge-waiting.ensures.mismatch
-          c.judge-waiting.result c.in-ok-opened.opened c.in-ok-opened.was w
-          (sym c.is-of-tag.ensures ∙ c.if-is-of-tag.false)
-          c.around.result c.around.ensures _ c.judge-row.result c.judge-row.ensures
-          c.close-at.new.self c.in-ok-judge-row.was f
-          (closed-frames t rows c.args.self.now h _ _ c.judge-waiting.new.self c.judge-waiting.ensures.frames c.judge-waiting.ensures.mismatch
-          c.judge-waiting.result c.in-ok-opened.opened c.in-ok-opened.was w
-          c.args.kind c.hold-any.new.self c.close-at.new.self c.hold-any.ensures.frames c.close-at.ensures.frames)
-          (closed-scope t rows c.args.self.now h _ _ c.judge-waiting.new.self c.judge-waiting.ensures.frames c.judge-waiting.ensures.mismatch
-          c.judge-waiting.result c.in-ok-opened.opened c.in-ok-opened.was w
-          c.args.kind c.hold-any.new.self c.close-at.new.self c.hold-any.ensures.frames c.close-at.ensures.frames
-          c.hold-any.ensures.scope (c.close-at.ensures.scope (texts c.args.lent)))
-          (closed-mark t rows c.args.self.now h _ _ c.judge-waiting.new.self c.judge-waiting.ensures.frames c.judge-waiting.ensures.mismatch
-          c.judge-waiting.result c.in-ok-opened.opened c.in-ok-opened.was w
-          c.args.kind c.hold-any.new.self c.close-at.new.self c.hold-any.ensures.frames c.close-at.ensures.frames
-          c.close-at.ensures.mismatch c.hold-any.ensures.mismatch);
-      known = c.close-at.ensures.known ∙ c.hold-any.ensures.known ∙ c.judge-waiting.ensures.known;
-      progress = c.close-at.ensures.progress ∙ c.hold-any.ensures.progress ∙ c.judge-waiting.ensures.progress;
+          c.judge_waiting.new.self _ c.judge_waiting.ensures.frames c.judge_waiting.ensures.mismatch
+          c.judge_waiting.result c.in_ok-opened.opened c.in_ok-opened.was w
+          (sym c.is_of_tag.ensures ∙ c.if-is_of_tag.false)
+          c.around.result c.around.ensures _ c.judge_row.result c.judge_row.ensures
+          c.close_at.new.self c.in_ok-judge_row.was f
+          (closed-frames t rows c.args.self.now h _ _ c.judge_waiting.new.self c.judge_waiting.ensures.frames c.judge_waiting.ensures.mismatch
+          c.judge_waiting.result c.in_ok-opened.opened c.in_ok-opened.was w
+          c.args.kind c.hold_any.new.self c.close_at.new.self c.hold_any.ensures.frames c.close_at.ensures.frames)
+          (closed-scope t rows c.args.self.now h _ _ c.judge_waiting.new.self c.judge_waiting.ensures.frames c.judge_waiting.ensures.mismatch
+          c.judge_waiting.result c.in_ok-opened.opened c.in_ok-opened.was w
+          c.args.kind c.hold_any.new.self c.close_at.new.self c.hold_any.ensures.frames c.close_at.ensures.frames
+          c.hold_any.ensures.scope (c.close_at.ensures.scope (texts c.args.lent)))
+          (closed-mark t rows c.args.self.now h _ _ c.judge_waiting.new.self c.judge_waiting.ensures.frames c.judge_waiting.ensures.mismatch
+          c.judge_waiting.result c.in_ok-opened.opened c.in_ok-opened.was w
+          c.args.kind c.hold_any.new.self c.close_at.new.self c.hold_any.ensures.frames c.close_at.ensures.frames
+          c.close_at.ensures.mismatch c.hold_any.ensures.mismatch);
+      known = c.close_at.ensures.known ∙ c.hold_any.ensures.known ∙ c.judge_waiting.ensures.known;
+      progress = c.close_at.ensures.progress ∙ c.hold_any.ensures.progress ∙ c.judge_waiting.ensures.progress;
     }

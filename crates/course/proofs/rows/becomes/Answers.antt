@@ -22,9 +22,9 @@ pub returns-in-Ignored-Text : goal.returns-in-Ignored-Text
 unfolding is_alternate_state keeps_text keeps_end
 returns-in-Ignored-Text c = search rules
 
-pub returns-in-Ignored-Text·2 : goal.returns-in-Ignored-Text·2
+pub returns-in-Ignored-Text-2 : goal.returns-in-Ignored-Text-2
 unfolding is_alternate_state keeps_text keeps_end
-returns-in-Ignored-Text·2 c = search rules
+returns-in-Ignored-Text-2 c = search rules
 
 pub returns-in-Kept-Text : goal.returns-in-Kept-Text
 unfolding is_alternate_state keeps_text keeps_end

@@ -7,17 +7,17 @@ pub returns-then-understood : goal.returns-then-understood
 unfolding is_foreign is_dispensable is_unwrapped
 returns-then-understood c knows u = search rules
 
-pub returns-then-is-mc : goal.returns-then-is-mc
+pub returns-then-is_mc : goal.returns-then-is_mc
 unfolding is_foreign is_dispensable is_unwrapped
-returns-then-is-mc c knows u = search rules
+returns-then-is_mc c knows u = search rules
 
-pub returns-then-is-empty : goal.returns-then-is-empty
+pub returns-then-is_empty : goal.returns-then-is_empty
 unfolding is_empty is_foreign is_dispensable is_unwrapped
-returns-then-is-empty c knows u = search rules
+returns-then-is_empty c knows u = search rules
 
-pub returns-then-not-is-marked : goal.returns-then-not-is-marked
+pub returns-then-not-is_marked : goal.returns-then-not-is_marked
 unfolding is_empty is_foreign is_dispensable is_unwrapped
-returns-then-not-is-marked c knows u = search rules
+returns-then-not-is_marked c knows u = search rules
 
 pub returns : goal.returns
 unfolding is_empty is_foreign is_dispensable is_unwrapped

@@ -3,8 +3,8 @@ use Rattle.file.specs.Form.{pair_count, repeated}
 use Rattle.file.proofs.Firsts.{first_step, first-end}
 use Rattle.file.proofs.pairs.first_repeated.Goals as goal
 
-pub returns-then-is-repeated : goal.returns-then-is-repeated
-returns-then-is-repeated c = let s = first_step (repeated c.args.pairs.now c.args.bytes.now) c.loop-k.k (pair_count c.args.pairs.now) (omega arith) in search rules
+pub returns-then-is_repeated : goal.returns-then-is_repeated
+returns-then-is_repeated c = let s = first_step (repeated c.args.pairs.now c.args.bytes.now) c.loop-k.k (pair_count c.args.pairs.now) (omega arith) in search rules
 
 pub loop-k-preserved : goal.loop-k-preserved
 loop-k-preserved c = let s = first_step (repeated c.args.pairs.now c.args.bytes.now) c.loop-k.k (pair_count c.args.pairs.now) (omega arith) in search rules

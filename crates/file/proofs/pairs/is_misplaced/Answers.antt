@@ -2,18 +2,18 @@ use Rattle.std.proofs.Common.{rules}
 use Rattle.file.specs.Form.{misplaced}
 use Rattle.file.proofs.pairs.is_misplaced.Goals as goal
 
-pub returns-then-offset-of-ne0 : goal.returns-then-offset-of-ne0
+pub returns-then-offset_of-ne0 : goal.returns-then-offset_of-ne0
 unfolding misplaced
-returns-then-offset-of-ne0 c = search rules
+returns-then-offset_of-ne0 c = search rules
 
-pub returns-else-offset-of-ne0 : goal.returns-else-offset-of-ne0
+pub returns-else-offset_of-ne0 : goal.returns-else-offset_of-ne0
 unfolding misplaced
-returns-else-offset-of-ne0 c = search rules
+returns-else-offset_of-ne0 c = search rules
 
-pub returns-then-offset-of-end-of : goal.returns-then-offset-of-end-of
+pub returns-then-offset_of-end_of : goal.returns-then-offset_of-end_of
 unfolding misplaced
-returns-then-offset-of-end-of c = search rules
+returns-then-offset_of-end_of c = search rules
 
-pub returns-else-offset-of-end-of : goal.returns-else-offset-of-end-of
+pub returns-else-offset_of-end_of : goal.returns-else-offset_of-end_of
 unfolding misplaced
-returns-else-offset-of-end-of c = search rules
+returns-else-offset_of-end_of c = search rules

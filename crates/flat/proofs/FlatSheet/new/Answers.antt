@@ -4,6 +4,6 @@ use Rattle.sheet.specs.Rows.{open_in, pairs}
 use Rattle.sheet.specs.Tails.{tail_of, Drafted}
 use Rattle.flat.proofs.FlatSheet.new.Goals as goal
 
-pub invariant-of-result : goal.invariant-of-result
+pub invariant_of-result : goal.invariant_of-result
 unfolding open_in pairs
-invariant-of-result c = rw c.new.ensures.items ((omega arith, c.new-2.ensures, tt, tt), tt)
+invariant_of-result c = rw c.new.ensures.items (record { drafted = (omega arith, c.new-2.ensures, tt, tt) })

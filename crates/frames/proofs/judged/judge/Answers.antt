@@ -7,11 +7,11 @@ use Rattle.frames.specs.Lists.{extension_list}
 use Rattle.frames.proofs.Opening.{grown-by}
 use Rattle.frames.proofs.judged.judge.Goals as goal
 
-pub returns-in-err-extension : goal.returns-in-err-extension
+pub returns-in_err-extension : goal.returns-in_err-extension
 unfolding faults_in
-returns-in-err-extension c =
+returns-in_err-extension c =
     record {
-      answer = λ knows k. let w = c.in-err-extension.ensures.answer knows k in search rules;
+      answer = λ knows k. let w = c.in_err-extension.ensures.answer knows k in search rules;
       opens = λ knows k. search rules;
       grown = search rules;
     }
@@ -19,7 +19,7 @@ returns-in-err-extension c =
 pub returns : goal.returns
 unfolding faults_in
 returns c =
-    let e = c.in-ok-extension.ensures in
+    let e = c.in_ok-extension.ensures in
     record {
       answer = e.answer;
       opens = λ knows k. c.open.ensures knows (extension_list c.args.extensions) (scope_of (texts c.args.lent) c.args.scope.now) k e.extension e.entered;

@@ -19,14 +19,14 @@ returns-in-Kept g c =
     λ knows k.
     puts_same _ _ _ _ _
     (rows-kept knows (scope_of (texts c.args.lent) c.args.scope.now) (tag_of (texts c.args.lent) c.args.element) c.args.frame.state c.args.frame.entered c.if-not-frame.false c.in-Kept.is _ (ap (ignorables_of (texts c.args.lent)) c.marks.ensures))
-    (c.put-tag.ensures knows k)
+    (c.put_tag.ensures knows k)
 
 pub returns-in-Extension : goal.returns-in-Extension
 returns-in-Extension g c =
     λ knows k.
     puts_same _ _ _ _ _
     (rows_extension knows (scope_of (texts c.args.lent) c.args.scope.now) (tag_of (texts c.args.lent) c.args.element) c.args.frame.state c.args.frame.entered c.if-not-frame.false c.in-Extension.is)
-    (c.put-whole.ensures (texts c.args.lent))
+    (c.put_whole.ensures (texts c.args.lent))
 
 pub returns-in-Unwrapped : goal.returns-in-Unwrapped
 returns-in-Unwrapped g c =

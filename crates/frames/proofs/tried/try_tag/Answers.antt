@@ -9,42 +9,42 @@ use Rattle.frames.specs.Lists.{extension_list}
 use Rattle.frames.proofs.Ways.{tried-inside, tried_listed, tried-element, one_inside, one_listed, neither}
 use Rattle.frames.proofs.tried.try_tag.Goals as goal
 
-pub returns-then-is-extension : goal.returns-then-is-extension
-returns-then-is-extension c =
+pub returns-then-is_extension : goal.returns-then-is_extension
+returns-then-is_extension c =
     record {
-      answer = λ knows k. tried-inside _ _ _ c.is-extension.result _ knows _ _ c.if-is-extension.ensures;
-      extension = one_inside _ _ c.if-is-extension.ensures;
+      answer = λ knows k. tried-inside _ _ _ c.is_extension.result _ knows _ _ c.if-is_extension.ensures;
+      extension = one_inside _ _ c.if-is_extension.ensures;
       entered = refl;
     }
 
-pub returns-in-err-try-place : goal.returns-in-err-try-place
-returns-in-err-try-place c =
+pub returns-in_err-try_place : goal.returns-in_err-try_place
+returns-in_err-try_place c =
     record {
       answer = λ knows k.
-          let w = tried_listed (is_extension_state c.args.around.state) (is_listed (extension_list c.args.extensions) (tag_of (texts c.args.lent) c.args.element)) (is_alternate_state c.args.around.state) c.is-alternate-inside.result c.args.around.fallback_seen knows (scope_of (texts c.args.lent) c.args.scope.now) (tag_of (texts c.args.lent) c.args.element)
-          c.if-is-extension.ensures c.if-is-listed.ensures c.is-alternate-inside.ensures _ _ (ap (ignorables_of (texts c.args.lent)) c.marks.ensures) c.in-err-try-place.ensures in
+          let w = tried_listed (is_extension_state c.args.around.state) (is_listed (extension_list c.args.extensions) (tag_of (texts c.args.lent) c.args.element)) (is_alternate_state c.args.around.state) c.is_alternate-inside.result c.args.around.fallback_seen knows (scope_of (texts c.args.lent) c.args.scope.now) (tag_of (texts c.args.lent) c.args.element)
+          c.if-is_extension.ensures c.if-is_listed.ensures c.is_alternate-inside.ensures _ _ (ap (ignorables_of (texts c.args.lent)) c.marks.ensures) c.in_err-try_place.ensures in
           search rules;
       extension = search rules;
       entered = search rules;
     }
 
-pub returns-then-is-listed : goal.returns-then-is-listed
-returns-then-is-listed c =
+pub returns-then-is_listed : goal.returns-then-is_listed
+returns-then-is_listed c =
     record {
       answer = λ knows k.
-          tried_listed (is_extension_state c.args.around.state) (is_listed (extension_list c.args.extensions) (tag_of (texts c.args.lent) c.args.element)) (is_alternate_state c.args.around.state) c.is-alternate-inside.result c.args.around.fallback_seen knows (scope_of (texts c.args.lent) c.args.scope.now) (tag_of (texts c.args.lent) c.args.element)
-          c.if-is-extension.ensures c.if-is-listed.ensures c.is-alternate-inside.ensures _ _ (ap (ignorables_of (texts c.args.lent)) c.marks.ensures) c.in-ok-try-place.ensures;
-      extension = one_listed _ _ c.if-is-listed.ensures;
+          tried_listed (is_extension_state c.args.around.state) (is_listed (extension_list c.args.extensions) (tag_of (texts c.args.lent) c.args.element)) (is_alternate_state c.args.around.state) c.is_alternate-inside.result c.args.around.fallback_seen knows (scope_of (texts c.args.lent) c.args.scope.now) (tag_of (texts c.args.lent) c.args.element)
+          c.if-is_extension.ensures c.if-is_listed.ensures c.is_alternate-inside.ensures _ _ (ap (ignorables_of (texts c.args.lent)) c.marks.ensures) c.in_ok-try_place.ensures;
+      extension = one_listed _ _ c.if-is_listed.ensures;
       entered = refl;
     }
 
-pub returns-in-err-try-element : goal.returns-in-err-try-element
-returns-in-err-try-element c =
+pub returns-in_err-try_element : goal.returns-in_err-try_element
+returns-in_err-try_element c =
     record {
       answer = λ knows k.
-          let w = tried-element (is_extension_state c.args.around.state) (is_listed (extension_list c.args.extensions) (tag_of (texts c.args.lent) c.args.element)) (is_alternate_state c.args.around.state) c.is-alternate-inside.result c.args.around.fallback_seen knows (scope_of (texts c.args.lent) c.args.scope.now) (tag_of (texts c.args.lent) c.args.element)
-          c.if-is-extension.ensures c.if-is-listed.ensures c.is-alternate-inside.ensures _
-          (c.in-err-try-element.ensures.answer knows (c.has-understood.ensures ∙ k c.args.element.start.row.a)) in
+          let w = tried-element (is_extension_state c.args.around.state) (is_listed (extension_list c.args.extensions) (tag_of (texts c.args.lent) c.args.element)) (is_alternate_state c.args.around.state) c.is_alternate-inside.result c.args.around.fallback_seen knows (scope_of (texts c.args.lent) c.args.scope.now) (tag_of (texts c.args.lent) c.args.element)
+          c.if-is_extension.ensures c.if-is_listed.ensures c.is_alternate-inside.ensures _
+          (c.in_err-try_element.ensures.answer knows (c.has-understood.ensures ∙ k c.args.element.start.row.a)) in
           search rules;
       extension = search rules;
       entered = search rules;
@@ -54,9 +54,9 @@ pub returns : goal.returns
 returns c =
     record {
       answer = λ knows k.
-          tried-element (is_extension_state c.args.around.state) (is_listed (extension_list c.args.extensions) (tag_of (texts c.args.lent) c.args.element)) (is_alternate_state c.args.around.state) c.is-alternate-inside.result c.args.around.fallback_seen knows (scope_of (texts c.args.lent) c.args.scope.now) (tag_of (texts c.args.lent) c.args.element)
-          c.if-is-extension.ensures c.if-is-listed.ensures c.is-alternate-inside.ensures _
-          (c.in-ok-try-element.ensures.answer knows (c.has-understood.ensures ∙ k c.args.element.start.row.a));
-      extension = neither _ _ c.if-is-listed.ensures c.if-is-extension.ensures;
-      entered = c.in-ok-try-element.ensures.entered;
+          tried-element (is_extension_state c.args.around.state) (is_listed (extension_list c.args.extensions) (tag_of (texts c.args.lent) c.args.element)) (is_alternate_state c.args.around.state) c.is_alternate-inside.result c.args.around.fallback_seen knows (scope_of (texts c.args.lent) c.args.scope.now) (tag_of (texts c.args.lent) c.args.element)
+          c.if-is_extension.ensures c.if-is_listed.ensures c.is_alternate-inside.ensures _
+          (c.in_ok-try_element.ensures.answer knows (c.has-understood.ensures ∙ k c.args.element.start.row.a));
+      extension = neither _ _ c.if-is_listed.ensures c.if-is_extension.ensures;
+      entered = c.in_ok-try_element.ensures.entered;
     }

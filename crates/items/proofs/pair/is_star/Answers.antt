@@ -8,5 +8,5 @@ returns-then-s-ne1 c = search (rules, star_other)
 pub returns-in-42 : goal.returns-in-42
 returns-in-42 c = let e = star_one c.args.s.now in grind rules
 
-pub returns-in-default : goal.returns-in-default
-returns-in-default c = let e = star_one c.args.s.now in grind rules
+pub returns-in_default : goal.returns-in_default
+returns-in_default c = let e = star_one c.args.s.now in grind rules

@@ -5,11 +5,11 @@ use Rattle.rules.specs.Scope.{requires_of}
 use Rattle.judge.proofs.Bounds.{some_mapped}
 use Rattle.judge.proofs.place.lacks_requires.Goals as goal
 
-pub returns-then-not-is-choice : goal.returns-then-not-is-choice
-returns-then-not-is-choice c = search rules
+pub returns-then-not-is_choice : goal.returns-then-not-is_choice
+returns-then-not-is_choice c = search rules
 
 pub returns : goal.returns
 unfolding requires_of
 returns c =
-    let s = sym (some_mapped (attr_of (texts c.args.lent)) c.requires-attr.result) ∙ ap is_some c.requires-attr.ensures in
+    let s = sym (some_mapped (attr_of (texts c.args.lent)) c.requires_attr.result) ∙ ap is_some c.requires_attr.ensures in
     search rules

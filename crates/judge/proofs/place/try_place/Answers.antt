@@ -11,17 +11,17 @@ pub returns-then-behind : goal.returns-then-behind
 unfolding place_faults
 returns-then-behind c = simp (first_append, first_one) (search rules)
 
-pub returns-then-is-branch : goal.returns-then-is-branch
+pub returns-then-is_branch : goal.returns-then-is_branch
 unfolding place_faults
-returns-then-is-branch c = simp (first_append, first_one) (search rules)
+returns-then-is_branch c = simp (first_append, first_one) (search rules)
 
 pub returns-then-not-inside-2 : goal.returns-then-not-inside-2
 unfolding place_faults
 returns-then-not-inside-2 c = simp (first_append, first_one) (search rules)
 
-pub returns-then-is-marked : goal.returns-then-is-marked
+pub returns-then-is_marked : goal.returns-then-is_marked
 unfolding place_faults
-returns-then-is-marked c = simp (first_append, first_one) (search rules)
+returns-then-is_marked c = simp (first_append, first_one) (search rules)
 
 pub returns : goal.returns
 unfolding place_faults

@@ -6,9 +6,9 @@ use Rattle.rules.specs.Order.{has_attr}
 use Rattle.attrs.proofs.Turns.{blank, first_turn, first_over}
 use Rattle.order.proofs.repeat.has_attr.Goals as goal
 
-pub returns-then-is-named : goal.returns-then-is-named
+pub returns-then-is_named : goal.returns-then-is_named
 unfolding has_attr attr_of
-returns-then-is-named c =
+returns-then-is_named c =
     let t = first_turn (attr_of (texts c.args.lent)) (λ (x : Attr). bytes_eq x.namespace c.args.namespace.now && bytes_eq x.name c.args.name.now) c.args.attrs.now c.loop-x.x-index blank (omega arith) in
     search rules
 

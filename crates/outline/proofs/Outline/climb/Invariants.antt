@@ -4,4 +4,4 @@ use Rattle.outline.specs.Outlines.{sealed_entries}
 use Rattle.outline.proofs.Outline.climb.Given as goal
 
 abbrev pub invariant-loop-step : goal.invariant-loop-step
-invariant-loop-step l = l.here ≡ climbed (sealed_entries l.self) l.-step l.initial.here
+invariant-loop-step l = l.here ≡ climbed (sealed_entries l.self) l._step l.initial.here

@@ -4,11 +4,12 @@ use Rattle.outline.specs.Entries.{rows_of}
 use Rattle.outline.proofs.Keeps.{new_all}
 use Rattle.outline.proofs.Outline.new.Goals as goal
 
-pub invariant-of-result : goal.invariant-of-result
+pub invariant_of-result : goal.invariant_of-result
 unfolding rows_of
-invariant-of-result c =
+invariant_of-result c =
     let few : slot_count c.new.result < 2 ^ 63 = search rules in
-    (few, new_all (items c.new.result) c.new-2.result c.new.ensures.items c.new-2.ensures)
+    let a = new_all (items c.new.result) c.new-2.result c.new.ensures.items c.new-2.ensures in
+    record { few = few; within = a.0; kept = a.1.0; finds = a.1.1.0; leads = a.1.1.1.0; keptbefore = a.1.1.1.1.0; findsbefore = a.1.1.1.1.1.0; leadsbefore = a.1.1.1.1.1.1.0; front = a.1.1.1.1.1.1.1.0; drafted = a.1.1.1.1.1.1.1.1.0 }
 
 pub returns : goal.returns
 unfolding rows_of

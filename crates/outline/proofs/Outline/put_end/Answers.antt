@@ -6,23 +6,23 @@ use Rattle.outline.proofs.Nths.{nth_lt}
 use Rattle.outline.proofs.Keeps.{all_of, few-rows, opened, top-some, top_entry, end-rows, end_all}
 use Rattle.outline.proofs.Outline.put_end.Goals as goal
 
-pub returns-in-default : goal.returns-in-default
-returns-in-default c =
+pub returns-in_default : goal.returns-in_default
+returns-in_default c =
     let p = top-some _ _ _ _ _ _ (all_of c.args.self.now) c.args.row true c.requires.fine c.requires.ends in
-    absurd (c.in-default.not-Some p.0 p.1)
+    absurd (c.in_default.not-Some p.0 p.1)
 
-pub returns-in-default-get : goal.returns-in-default-get
-returns-in-default-get c =
+pub returns-in_default-get : goal.returns-in_default-get
+returns-in_default-get c =
     let p = top_entry _ _ _ _ _ _ (all_of c.args.self.now) c.args.row true c.requires.fine c.requires.ends c.in-Some.at c.in-Some.is in
-    absurd (c.in-default-get.not-Some p.0 (c.get.ensures ∙ p.1))
+    absurd (c.in_default-get.not-Some p.0 (c.get.ensures ∙ p.1))
 
-pub overflow-sub-between-2 : goal.overflow-sub-between-2
-overflow-sub-between-2 c =
+pub overflow_sub-between-2 : goal.overflow_sub-between-2
+overflow_sub-between-2 c =
     let a = nth_lt (items c.args.self.now.roll) c.in-Some.at c.in-Some-get.start (sym c.in-Some-get.ensures) in
     omega (arith, c.len.ensures)
 
-pub overflow-add-self : goal.overflow-add-self
-overflow-add-self c =
+pub overflow_add-self : goal.overflow_add-self
+overflow_add-self c =
     let a = few-rows _ _ _ _ _ _ (all_of c.args.self.now) in
     let b = opened _ _ _ _ _ _ (all_of c.args.self.now) c.args.row true c.requires.fine c.requires.ends in
     let d = items_fit c.args.self.now.roll in
@@ -34,14 +34,15 @@ behind-self-requires c =
     let d = items_fit c.args.self.now.roll in
     omega (arith, a.1, c.args.self.now.few)
 
-pub invariant-of-self : goal.invariant-of-self
-invariant-of-self c =
+pub invariant_of-self : goal.invariant_of-self
+invariant_of-self c =
     let inside : c.len.result - 1 - c.in-Some.at ≡ length (items c.args.self.now.roll) - 1 - c.in-Some.at = ap (λ n. n - 1 - c.in-Some.at) c.len.ensures in
-    let shut = c.set.ensures.items ∙ ap (set (items c.args.self.now.roll) c.in-Some.at) c.closed-by.ensures in
-    (rw c.set.ensures.slots c.args.self.now.few, end_all _ _ _ _ _ _ (all_of c.args.self.now) c.args.row true c.requires.fine c.requires.ends c.in-Some.at c.in-Some.is c.in-Some-get.start (sym c.in-Some-get.ensures) _ inside _ _ shut c.behind-self.ensures)
+    let shut = c.set.ensures.items ∙ ap (set (items c.args.self.now.roll) c.in-Some.at) c.closed_by.ensures in
+    let a = end_all _ _ _ _ _ _ (all_of c.args.self.now) c.args.row true c.requires.fine c.requires.ends c.in-Some.at c.in-Some.is c.in-Some-get.start (sym c.in-Some-get.ensures) _ inside _ _ shut c.behind-self.ensures in
+    record { few = rw c.set.ensures.slots c.args.self.now.few; within = a.0; kept = a.1.0; finds = a.1.1.0; leads = a.1.1.1.0; keptbefore = a.1.1.1.1.0; findsbefore = a.1.1.1.1.1.0; leadsbefore = a.1.1.1.1.1.1.0; front = a.1.1.1.1.1.1.1.0; drafted = a.1.1.1.1.1.1.1.1.0 }
 
 pub returns : goal.returns
 returns c =
     let inside : c.len.result - 1 - c.in-Some.at ≡ length (items c.args.self.now.roll) - 1 - c.in-Some.at = ap (λ n. n - 1 - c.in-Some.at) c.len.ensures in
-    let shut = c.set.ensures.items ∙ ap (set (items c.args.self.now.roll) c.in-Some.at) c.closed-by.ensures in
+    let shut = c.set.ensures.items ∙ ap (set (items c.args.self.now.roll) c.in-Some.at) c.closed_by.ensures in
     record { rows = ap rows_of shut ∙ end-rows _ _ _ _ _ _ (all_of c.args.self.now) c.args.row true c.requires.fine c.requires.ends c.in-Some.at c.in-Some.is c.in-Some-get.start (sym c.in-Some-get.ensures) _ inside; sealed = refl; slots = c.set.ensures.slots }

@@ -10,6 +10,6 @@ use Rattle.outline.proofs.Outline.row_at.Goals as goal
 
 pub returns : goal.returns
 returns c =
-    let found = c.args.self.now.findsbefore c.entry-by-i.result c.args.n c.entry-by-i.ensures in
-    let same = both (ltb c.args.n c.args.self.now.count) (same_answer (found_at (sealed_entries c.args.self.now) c.entry-by-i.result (c.args.n - number_at (sealed_entries c.args.self.now) c.args.self.now.count c.entry-by-i.result)) (slice_get (rows_of (sealed_entries c.args.self.now)) c.args.n)) found in
-    c.found-at.ensures ∙ ap (λ k. found_at (sealed_entries c.args.self.now) c.entry-by-i.result (c.args.n - k)) c.number-at.ensures ∙ same_answer_lem _ _ same.1 ∙ ap (λ xs. slice_get xs c.args.n) (front-rows _ _ _ _ _ _ (all_of c.args.self.now))
+    let found = c.args.self.now.findsbefore c.entry_by-i.result c.args.n c.entry_by-i.ensures in
+    let same = both (ltb c.args.n c.args.self.now.count) (same_answer (found_at (sealed_entries c.args.self.now) c.entry_by-i.result (c.args.n - number_at (sealed_entries c.args.self.now) c.args.self.now.count c.entry_by-i.result)) (slice_get (rows_of (sealed_entries c.args.self.now)) c.args.n)) found in
+    c.found_at.ensures ∙ ap (λ k. found_at (sealed_entries c.args.self.now) c.entry_by-i.result (c.args.n - k)) c.number_at.ensures ∙ same_answer_lem _ _ same.1 ∙ ap (λ xs. slice_get xs c.args.n) (front-rows _ _ _ _ _ _ (all_of c.args.self.now))

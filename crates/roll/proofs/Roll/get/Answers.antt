@@ -4,9 +4,9 @@ use Rattle.std.proofs.lemmas.Option.{slice_get-get_or, slice_get_past}
 use Rattle.roll.specs.Rolls.{items}
 use Rattle.roll.proofs.Roll.get.Goals as goal
 
-pub offset-bounds-slots-i : goal.offset-bounds-slots-i
+pub offset_bounds-slots-i : goal.offset_bounds-slots-i
 unfolding items
-offset-bounds-slots-i g c = search (rules, length-take)
+offset_bounds-slots-i g c = search (rules, length-take)
 
 pub bounds-slots-i : goal.bounds-slots-i
 unfolding items

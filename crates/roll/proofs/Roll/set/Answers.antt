@@ -4,9 +4,9 @@ use Rattle.std.proofs.lemmas.List.{set_past, length-take, length-set}
 use Rattle.roll.specs.Rolls.{items, slot_count}
 use Rattle.roll.proofs.Roll.set.Goals as goal
 
-pub offset-bounds-self-i : goal.offset-bounds-self-i
+pub offset_bounds-self-i : goal.offset_bounds-self-i
 unfolding items slot_count
-offset-bounds-self-i g c = search (rules, length-take)
+offset_bounds-self-i g c = search (rules, length-take)
 
 pub bounds-self-i : goal.bounds-self-i
 unfolding items slot_count

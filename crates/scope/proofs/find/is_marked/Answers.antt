@@ -10,5 +10,5 @@ use Rattle.scope.proofs.find.is_marked.Goals as goal
 pub returns : goal.returns
 unfolding is_ignorable_in ignorables_of
 returns c =
-    c.is-some.ensures ∙ ap is_some c.newest.ensures
+    c.is_some.ensures ∙ ap is_some c.newest.ensures
     ∙ sym (found_first (mark_of (texts c.args.lent)) (λ (item : Bytes). bytes_eq item c.args.namespace.now) c.args.marks.now)

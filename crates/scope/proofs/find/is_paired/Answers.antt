@@ -10,5 +10,5 @@ use Rattle.scope.proofs.find.is_paired.Goals as goal
 pub returns : goal.returns
 unfolding is_processed_in processed_of
 returns c =
-    c.is-some.ensures ∙ ap is_some c.newest.ensures
+    c.is_some.ensures ∙ ap is_some c.newest.ensures
     ∙ sym (found_first (pair_of (texts c.args.lent)) (λ (item : Name). bytes_eq item.0 c.args.namespace.now && bytes_eq item.1 c.args.local.now) c.args.pairs.now)

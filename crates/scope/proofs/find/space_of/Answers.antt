@@ -9,18 +9,18 @@ use Rattle.scope.specs.Entries.{binding_of, bindings_of}
 use Rattle.scope.proofs.Finds.{first_meant}
 use Rattle.scope.proofs.find.space_of.Goals as goal
 
-pub returns-then-is-xml-prefix : goal.returns-then-is-xml-prefix
+pub returns-then-is_xml_prefix : goal.returns-then-is_xml_prefix
 unfolding bound
-returns-then-is-xml-prefix c = rw (← c.if-is-xml-prefix.ensures)
+returns-then-is_xml_prefix c = rw (← c.if-is_xml_prefix.ensures)
 
-pub returns-in-default : goal.returns-in-default
+pub returns-in_default : goal.returns-in_default
 unfolding bound bindings_of
-returns-in-default c =
-    rw (← c.if-is-xml-prefix.ensures)
-    (sym (ap (option_map (λ (b : Binding). b.namespace)) (first_meant (binding_of (texts c.args.lent)) (λ (b : Binding). bytes_eq b.prefix c.args.prefix.now) c.args.bindings.now ∙ ap (option_map (binding_of (texts c.args.lent))) (sym c.in-default.ensures))))
+returns-in_default c =
+    rw (← c.if-is_xml_prefix.ensures)
+    (sym (ap (option_map (λ (b : Binding). b.namespace)) (first_meant (binding_of (texts c.args.lent)) (λ (b : Binding). bytes_eq b.prefix c.args.prefix.now) c.args.bindings.now ∙ ap (option_map (binding_of (texts c.args.lent))) (sym c.in_default.ensures))))
 
 pub returns : goal.returns
 unfolding bound bindings_of
 returns c =
-    rw (← c.if-is-xml-prefix.ensures)
+    rw (← c.if-is_xml_prefix.ensures)
     (sym (ap (option_map (λ (b : Binding). b.namespace)) (first_meant (binding_of (texts c.args.lent)) (λ (b : Binding). bytes_eq b.prefix c.args.prefix.now) c.args.bindings.now ∙ ap (option_map (binding_of (texts c.args.lent))) (sym c.in-Some.ensures))))

@@ -2,9 +2,9 @@ use Rattle.std.proofs.Common.{rules}
 use Rattle.sheet.specs.Sheets.{record_answer, after_record}
 use Rattle.sheet.proofs.copy.put_record.Goals as goal
 
-pub returns-in-err-put-all : goal.returns-in-err-put-all
+pub returns-in_err-put_all : goal.returns-in_err-put_all
 unfolding record_answer after_record
-returns-in-err-put-all g c = search rules
+returns-in_err-put_all g c = search rules
 
 pub returns : goal.returns
 unfolding record_answer after_record

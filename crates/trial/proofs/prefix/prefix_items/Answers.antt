@@ -7,9 +7,9 @@ use Rattle.scope.specs.Entries.{bindings_of}
 use Rattle.trial.proofs.Firsts.{item_turn}
 use Rattle.trial.proofs.prefix.prefix_items.Goals as goal
 
-pub returns-in-err-prefix-item : goal.returns-in-err-prefix-item
+pub returns-in_err-prefix_item : goal.returns-in_err-prefix_item
 unfolding prefix_items
-returns-in-err-prefix-item c =
+returns-in_err-prefix_item c =
     let bindings = bindings_of (texts c.args.lent) c.args.bindings.now in
     let t = item_turn (prefix_item bindings c.args.place) (prefix_items bindings c.args.place) _ c.in-Some.item.now _ _ _ refl c.loop-item.invariant c.in-Some.ensures.item in
     search rules
@@ -19,9 +19,9 @@ unfolding prefix_items
 loop-item-preserved c =
     let bindings = bindings_of (texts c.args.lent) c.args.bindings.now in
     let t = item_turn (prefix_item bindings c.args.place) (prefix_items bindings c.args.place) _ c.in-Some.item.now _ _ _ refl c.loop-item.invariant c.in-Some.ensures.item in
-    let f = c.in-ok-prefix-item.ensures.answer in
+    let f = c.in_ok-prefix_item.ensures.answer in
     search rules
 
 pub returns : goal.returns
 unfolding prefix_items
-returns c = let e = c.in-default.ensures.item in search rules
+returns c = let e = c.in_default.ensures.item in search rules

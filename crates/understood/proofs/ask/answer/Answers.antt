@@ -8,6 +8,6 @@ none-long : (s : Bytes) → length s ≡ 0 → [] ≡ s
 none-long [] e = refl
 none-long (b ∷ bs) e = absurd (omega arith)
 
-pub returns-then-is-empty : goal.returns-then-is-empty
-returns-then-is-empty g c =
-    λ e. e ∙ ap (is_understood (g.K.Knowledge.meaning c.args.knowledge.now)) (none-long _ (eqb-true _ _ (sym c.if-is-empty.ensures)) ∙ c.at-text.ensures)
+pub returns-then-is_empty : goal.returns-then-is_empty
+returns-then-is_empty g c =
+    λ e. e ∙ ap (is_understood (g.K.Knowledge.meaning c.args.knowledge.now)) (none-long _ (eqb-true _ _ (sym c.if-is_empty.ensures)) ∙ c.at-text.ensures)

@@ -16,7 +16,7 @@ pub loop-x-preserved : goal.loop-x-preserved
 loop-x-preserved c =
     λ knows s k b i.
     let t = marks_turn knows c.args.heeded c.args.kept s (texts c.args.lent) c.args.attrs.now c.loop-x.x-index blank (omega arith) in
-    let m = c.in-default.ensures knows s k b i in
+    let m = c.in_default.ensures knows s k b i in
     let v = c.loop-x.invariant knows s k b i in
     search rules
 

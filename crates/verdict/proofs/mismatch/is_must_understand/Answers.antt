@@ -3,9 +3,9 @@ use Rattle.rules.specs.Elements.{attr_of}
 use Rattle.rules.specs.Scope.{mc_attribute, is_must_understand}
 use Rattle.verdict.proofs.mismatch.is_must_understand.Goals as goal
 
-pub returns-then-not-is-mc : goal.returns-then-not-is-mc
+pub returns-then-not-is_mc : goal.returns-then-not-is_mc
 unfolding attr_of mc_attribute is_must_understand
-returns-then-not-is-mc c = search rules
+returns-then-not-is_mc c = search rules
 
 pub returns-in-Some-MustUnderstand : goal.returns-in-Some-MustUnderstand
 unfolding attr_of mc_attribute is_must_understand

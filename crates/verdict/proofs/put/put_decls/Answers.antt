@@ -9,20 +9,20 @@ use Rattle.verdict.proofs.put.put_decls.Goals as goal
 pub loop-x-init : goal.loop-x-init
 loop-x-init g c = λ knows k. (refl, refl)
 
-pub returns-in-err-put-when : goal.returns-in-err-put-when
-returns-in-err-put-when g c =
-    let p = err_from_is_err_and c.from-residual.result c.from-residual.ensures.1 in
+pub returns-in_err-put_when : goal.returns-in_err-put_when
+returns-in_err-put_when g c =
+    let p = err_from_is_err_and c.from_residual.result c.from_residual.ensures.1 in
     λ knows k.
     rw (p.1, p.2)
     (same_none _ _ _ _ _ _ _
-    (decls_turn knows (ignorables_of (texts c.args.lent) c.args.marks.now) (texts c.args.lent) c.args.decls.now c.loop-x.x-index blank _ c.loop-x-test.true (c.keeps-decl-keeps.ensures knows k))
-    (c.loop-x.invariant knows k) _ c.in-err-put-when.ensures)
+    (decls_turn knows (ignorables_of (texts c.args.lent) c.args.marks.now) (texts c.args.lent) c.args.decls.now c.loop-x.x-index blank _ c.loop-x-test.true (c.keeps_decl-keeps.ensures knows k))
+    (c.loop-x.invariant knows k) _ c.in_err-put_when.ensures)
 
 pub loop-x-preserved : goal.loop-x-preserved
 loop-x-preserved g c =
     λ knows k. same_more _ _ _ _ _ _ _
-    (decls_turn knows (ignorables_of (texts c.args.lent) c.args.marks.now) (texts c.args.lent) c.args.decls.now c.loop-x.x-index blank _ c.loop-x-test.true (c.keeps-decl-keeps.ensures knows k))
-    (c.loop-x.invariant knows k) c.in-ok-put-when.ensures
+    (decls_turn knows (ignorables_of (texts c.args.lent) c.args.marks.now) (texts c.args.lent) c.args.decls.now c.loop-x.x-index blank _ c.loop-x-test.true (c.keeps_decl-keeps.ensures knows k))
+    (c.loop-x.invariant knows k) c.in_ok-put_when.ensures
 
 pub returns : goal.returns
 returns g c =

@@ -3,9 +3,9 @@ use Rattle.rules.specs.Elements.{decl_of}
 use Rattle.rules.specs.Steps.{is_kept_decl}
 use Rattle.verdict.proofs.rows.keeps_decl.Goals as goal
 
-pub returns-then-is-mc : goal.returns-then-is-mc
+pub returns-then-is_mc : goal.returns-then-is_mc
 unfolding decl_of is_kept_decl
-returns-then-is-mc c = λ knows k. search rules
+returns-then-is_mc c = λ knows k. search rules
 
 pub returns-then-has : goal.returns-then-has
 unfolding decl_of is_kept_decl

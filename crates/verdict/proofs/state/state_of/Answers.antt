@@ -20,4 +20,4 @@ returns-in-Some-Fallback c = λ knows s k i p. let e = c.in-Some-Fallback.ensure
 
 pub returns-in-None : goal.returns-in-None
 unfolding state_in
-returns-in-None c = λ knows s k i p. let e = c.in-None.ensures in let o = c.state-outside.ensures knows k in search rules
+returns-in-None c = λ knows s k i p. let e = c.in-None.ensures in let o = c.state_outside.ensures knows k in search rules

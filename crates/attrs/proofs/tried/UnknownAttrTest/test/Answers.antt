@@ -2,9 +2,9 @@ use Rattle.std.proofs.Common.{rules}
 use Rattle.rules.specs.Elements.{attr_of}
 use Rattle.attrs.proofs.tried.UnknownAttrTest.test.Goals as goal
 
-pub returns-then-not-is-mc : goal.returns-then-not-is-mc
+pub returns-then-not-is_mc : goal.returns-then-not-is_mc
 unfolding attr_of
-returns-then-not-is-mc c = search rules
+returns-then-not-is_mc c = search rules
 
 pub returns : goal.returns
 unfolding attr_of

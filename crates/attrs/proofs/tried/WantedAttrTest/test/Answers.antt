@@ -3,9 +3,9 @@ use Rattle.rules.specs.Elements.{attr_of}
 use Rattle.rules.specs.Scope.{mc_attribute}
 use Rattle.attrs.proofs.tried.WantedAttrTest.test.Goals as goal
 
-pub returns-then-not-is-mc : goal.returns-then-not-is-mc
+pub returns-then-not-is_mc : goal.returns-then-not-is_mc
 unfolding attr_of mc_attribute
-returns-then-not-is-mc c = search rules
+returns-then-not-is_mc c = search rules
 
 pub returns-in-Some : goal.returns-in-Some
 unfolding attr_of mc_attribute

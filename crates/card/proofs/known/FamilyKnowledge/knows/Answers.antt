@@ -9,5 +9,5 @@ use Rattle.card.proofs.known.FamilyKnowledge.knows.Goals as goal
 pub returns : goal.returns
 unfolding family_says stems of_kind
 returns c =
-    c.is-some.ensures ∙ ap is_some c.first-row.ensures
+    c.is_some.ensures ∙ ap is_some c.first_row.ensures
     ∙ some_of_kind (λ row. eqb row.kind 22) (λ row. text_at (held c.args.self.now.card).texts row.a) (λ stem. begins stem c.args.name.now) (held c.args.self.now.card).rows

@@ -8,15 +8,15 @@ pub returns-in-Some : goal.returns-in-Some
 unfolding read_texts
 returns-in-Some c = search rules
 
-pub returns-in-Some-first-repeated : goal.returns-in-Some-first-repeated
+pub returns-in-Some-first_repeated : goal.returns-in-Some-first_repeated
 unfolding read_texts
-returns-in-Some-first-repeated c = search rules
+returns-in-Some-first_repeated c = search rules
 
 pub returns : goal.returns
 unfolding read_texts texts
 returns c =
     record {
-      answer = rw (sym c.in-default.ensures, sym c.in-default-first-repeated.ensures);
+      answer = rw (sym c.in_default.ensures, sym c.in_default-first_repeated.ensures);
       distinct =
-          distinct_texts c.args.pairs.now c.args.bytes.now (ap (λ o. not (is_some o)) (sym c.in-default-first-repeated.ensures));
+          distinct_texts c.args.pairs.now c.args.bytes.now (ap (λ o. not (is_some o)) (sym c.in_default-first_repeated.ensures));
     }

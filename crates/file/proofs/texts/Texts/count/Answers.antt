@@ -5,4 +5,4 @@ use Rattle.file.proofs.texts.Texts.count.Goals as goal
 
 pub returns : goal.returns
 unfolding texts
-returns c = c.pair-count.ensures ∙ sym (length-texts c.args.self.pairs.now c.args.self.bytes.now)
+returns c = c.pair_count.ensures ∙ sym (length-texts c.args.self.pairs.now c.args.self.bytes.now)

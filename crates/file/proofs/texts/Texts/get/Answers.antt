@@ -8,9 +8,9 @@ use Rattle.file.proofs.texts.Texts.get.Goals as goal
 pub returns-then-k-count : goal.returns-then-k-count
 returns-then-k-count c = search (rules, slice_get_past)
 
-pub text-of-requires : goal.text-of-requires
+pub text_of-requires : goal.text_of-requires
 unfolding texts
-text-of-requires c =
+text_of-requires c =
     let lt : c.args.n < pair_count c.args.self.pairs.now = omega (arith, length-texts c.args.self.pairs.now c.args.self.bytes.now) in
     search rules
 

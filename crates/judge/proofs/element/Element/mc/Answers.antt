@@ -2,9 +2,9 @@ use Rattle.std.proofs.Common.{rules}
 use Rattle.rules.specs.Scope.{mc_element}
 use Rattle.judge.proofs.element.Element.mc.Goals as goal
 
-pub returns-then-not-is-mc : goal.returns-then-not-is-mc
+pub returns-then-not-is_mc : goal.returns-then-not-is_mc
 unfolding mc_element
-returns-then-not-is-mc c = search rules
+returns-then-not-is_mc c = search rules
 
 pub returns : goal.returns
 unfolding mc_element

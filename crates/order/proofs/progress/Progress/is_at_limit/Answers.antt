@@ -12,12 +12,12 @@ pub returns-in-Declaration : goal.returns-in-Declaration
 unfolding is_at_limit
 returns-in-Declaration c =
     λ ts past f.
-    simp c.in-Declaration.is (c.is-full-of-decls.ensures ts ∙ asked ts past c.args.self.now f (λ (t : Tag). leb 32 (length t.decls)))
+    simp c.in-Declaration.is (c.is_full_of_decls.ensures ts ∙ asked ts past c.args.self.now f (λ (t : Tag). leb 32 (length t.decls)))
 
 pub returns-in-Attribute : goal.returns-in-Attribute
 unfolding is_at_limit
 returns-in-Attribute c =
-    λ ts past f. simp c.in-Attribute.is (c.is-full-of-attrs.ensures ts ∙ asked ts past c.args.self.now f (λ (t : Tag). leb 32 (length t.attrs)))
+    λ ts past f. simp c.in-Attribute.is (c.is_full_of_attrs.ensures ts ∙ asked ts past c.args.self.now f (λ (t : Tag). leb 32 (length t.attrs)))
 
 pub returns-in-Text : goal.returns-in-Text
 unfolding is_at_limit

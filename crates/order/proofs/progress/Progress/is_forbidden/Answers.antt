@@ -8,19 +8,19 @@ use Rattle.order.proofs.progress.Progress.is_forbidden.Goals as goal
 or-of : (a b : Bool) → false ≡ a → b ≡ (a || b)
 or-of a b e = ap (λ (v : Bool). v || b) e
 
-pub returns-then-is-forbidden-decl : goal.returns-then-is-forbidden-decl
+pub returns-then-is_forbidden_decl : goal.returns-then-is_forbidden_decl
 unfolding is_forbidden
-returns-then-is-forbidden-decl c =
+returns-then-is_forbidden_decl c =
     λ past f.
-    let h = c.if-is-forbidden-decl.ensures ∙ ap₂ is_forbidden_decl c.at.ensures c.at-in-Declaration.ensures in
+    let h = c.if-is_forbidden_decl.ensures ∙ ap₂ is_forbidden_decl c.at.ensures c.at-in-Declaration.ensures in
     simp c.in-Declaration.is (sym (or_left _ _ (sym h)))
 
-pub returns-else-is-forbidden-decl : goal.returns-else-is-forbidden-decl
+pub returns-else-is_forbidden_decl : goal.returns-else-is_forbidden_decl
 unfolding is_forbidden
-returns-else-is-forbidden-decl c =
+returns-else-is_forbidden_decl c =
     λ past f.
-    let h = c.if-is-forbidden-decl.ensures ∙ ap₂ is_forbidden_decl c.at.ensures c.at-in-Declaration.ensures in
-    let r = asked-prefix (texts c.args.lent) past c.args.self.now f _ _ _ c.at-in-Declaration-2.ensures c.repeats-prefix.ensures in
+    let h = c.if-is_forbidden_decl.ensures ∙ ap₂ is_forbidden_decl c.at.ensures c.at-in-Declaration.ensures in
+    let r = asked-prefix (texts c.args.lent) past c.args.self.now f _ _ _ c.at-in-Declaration-2.ensures c.repeats_prefix.ensures in
     simp c.in-Declaration.is (r ∙ or-of _ _ h)
 
 pub returns-in-Attribute : goal.returns-in-Attribute
@@ -28,7 +28,7 @@ unfolding is_forbidden
 returns-in-Attribute c =
     λ past f.
     simp c.in-Attribute.is
-    (asked_attr (texts c.args.lent) past c.args.self.now f _ _ _ _ _ c.at-in-Attribute.ensures c.at-in-Attribute-2.ensures c.repeats-attr.ensures)
+    (asked_attr (texts c.args.lent) past c.args.self.now f _ _ _ _ _ c.at-in-Attribute.ensures c.at-in-Attribute-2.ensures c.repeats_attr.ensures)
 
 pub returns-in-Start : goal.returns-in-Start
 unfolding is_forbidden

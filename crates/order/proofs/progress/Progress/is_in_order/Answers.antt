@@ -11,11 +11,11 @@ returns-in-Start c = λ ts past f. simp c.in-Start.is (ap not f.ended)
 pub returns-in-Declaration : goal.returns-in-Declaration
 unfolding is_in_order
 returns-in-Declaration c =
-    λ ts past f. simp c.in-Declaration.is (c.lacks-attrs.ensures ts ∙ asked ts past c.args.self.now f (λ (t : Tag). has_no_attrs t.attrs))
+    λ ts past f. simp c.in-Declaration.is (c.lacks_attrs.ensures ts ∙ asked ts past c.args.self.now f (λ (t : Tag). has_no_attrs t.attrs))
 
 pub returns-in-Attribute : goal.returns-in-Attribute
 unfolding is_in_order
-returns-in-Attribute c = λ ts past f. simp c.in-Attribute.is (c.is-present.ensures ts ∙ asked ts past c.args.self.now f (λ (t : Tag). true))
+returns-in-Attribute c = λ ts past f. simp c.in-Attribute.is (c.is_present.ensures ts ∙ asked ts past c.args.self.now f (λ (t : Tag). true))
 
 pub returns-in-Text : goal.returns-in-Text
 unfolding is_in_order

@@ -9,4 +9,4 @@ returns-then-not-self c = simp c.if-not-self.true
 
 pub returns : goal.returns
 unfolding waiting_of on_tag
-returns c = simp (c.if-not-self.false, sym c.entries.ensures) c.has-attr.ensures
+returns c = simp (c.if-not-self.false, sym c.entries.ensures) c.has_attr.ensures

@@ -5,9 +5,10 @@ use Rattle.outline.specs.Entries.{outline_cost, rows_of}
 use Rattle.outline.proofs.Keeps.{all_of, front-rows, drop_all}
 use Rattle.outline.proofs.calls.OutlineSheet.drop_draft.Goals as goal
 
-pub invariant-of-self : goal.invariant-of-self
-invariant-of-self c =
-    (rw c.truncate.ensures.slots c.args.self.now.few, drop_all _ _ _ _ _ _ (all_of c.args.self.now) _ _ c.truncate.ensures.items c.new-self.ensures)
+pub invariant_of-self : goal.invariant_of-self
+invariant_of-self c =
+    let a = drop_all _ _ _ _ _ _ (all_of c.args.self.now) _ _ c.truncate.ensures.items c.new-self.ensures in
+    record { few = rw c.truncate.ensures.slots c.args.self.now.few; within = a.0; kept = a.1.0; finds = a.1.1.0; leads = a.1.1.1.0; keptbefore = a.1.1.1.1.0; findsbefore = a.1.1.1.1.1.0; leadsbefore = a.1.1.1.1.1.1.0; front = a.1.1.1.1.1.1.1.0; drafted = a.1.1.1.1.1.1.1.1.0 }
 
 pub returns : goal.returns
 returns c =

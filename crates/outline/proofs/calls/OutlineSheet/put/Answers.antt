@@ -8,31 +8,31 @@ use Rattle.sheet.proofs.Drafts.{cut, put-accepted, put_refused, accepted-room}
 use Rattle.outline.specs.Entries.{outline_cost, rows_of}
 use Rattle.outline.proofs.calls.OutlineSheet.put.Goals as goal
 
-pub returns-in-err-judge : goal.returns-in-err-judge
-returns-in-err-judge c =
-    let p = err_from_is_err_and c.from-residual.result c.from-residual.ensures.1 in
-    let q = put_refused _ _ (rows_of (items c.args.self.now.roll)) c.args.self.now.drafted (slot_count c.args.self.now.roll) outline_cost c.args.row _ _ (c.has-room.ensures, c.in-err-judge.ensures) in
+pub returns-in_err-judge : goal.returns-in_err-judge
+returns-in_err-judge c =
+    let p = err_from_is_err_and c.from_residual.result c.from_residual.ensures.1 in
+    let q = put_refused _ _ (rows_of (items c.args.self.now.roll)) c.args.self.now.drafted (slot_count c.args.self.now.roll) outline_cost c.args.row _ _ (c.has_room.ensures, c.in_err-judge.ensures) in
     record { answer = rw (p.1, p.2) q.0; meaning = q.1 }
 
-pub put-end-requires : goal.put-end-requires
-put-end-requires c =
-    let room = accepted-room _ _ _ c.in-ok-judge.ensures in
-    record { fine = c.in-ok-judge.ensures ∙ ap (judged c.args.self.now.tail c.args.row) room; ends = eq-eqb _ _ (c.if-row-number.true ∙ c.number.ensures) }
+pub put_end-requires : goal.put_end-requires
+put_end-requires c =
+    let room = accepted-room _ _ _ c.in_ok-judge.ensures in
+    record { fine = c.in_ok-judge.ensures ∙ ap (judged c.args.self.now.tail c.args.row) room; ends = eq-eqb _ _ (c.if-row-number.true ∙ c.number.ensures) }
 
-pub put-entry-requires : goal.put-entry-requires
-put-entry-requires c =
-    let room = accepted-room _ _ _ c.in-ok-judge.ensures in
+pub put_entry-requires : goal.put_entry-requires
+put_entry-requires c =
+    let room = accepted-room _ _ _ c.in_ok-judge.ensures in
     let other : is_end c.args.row ≡ false = ne_eqb _ _ (λ e. c.if-row-number.false (e ∙ sym c.number.ensures)) in
     let one : cost_of outline_cost c.args.row ≡ 1 = grind arith in
-    let fits = leb-true _ _ (sym c.has-room.ensures ∙ room) in
-    record { fine = c.in-ok-judge.ensures ∙ ap (judged c.args.self.now.tail c.args.row) room; stays = other; room = omega (arith, c.args.self.now.kept.1) }
+    let fits = leb-true _ _ (sym c.has_room.ensures ∙ room) in
+    record { fine = c.in_ok-judge.ensures ∙ ap (judged c.args.self.now.tail c.args.row) room; stays = other; room = omega (arith, c.args.self.now.kept.1) }
 
 pub returns-then-row-number : goal.returns-then-row-number
 returns-then-row-number c =
-    let q = put-accepted _ _ (rows_of (items c.args.self.now.roll)) c.args.self.now.drafted (slot_count c.args.self.now.roll) outline_cost c.args.row _ _ (c.has-room.ensures, c.in-ok-judge.ensures) c.put-end.ensures.rows in
-    record { answer = q.0; meaning = ap (λ n. cut n (rows_of (items c.put-end.new.self.roll)) (slot_count c.put-end.new.self.roll) outline_cost) c.put-end.ensures.sealed ∙ ap (λ n. cut c.args.self.now.count (rows_of (items c.put-end.new.self.roll)) n outline_cost) c.put-end.ensures.slots ∙ q.1 }
+    let q = put-accepted _ _ (rows_of (items c.args.self.now.roll)) c.args.self.now.drafted (slot_count c.args.self.now.roll) outline_cost c.args.row _ _ (c.has_room.ensures, c.in_ok-judge.ensures) c.put_end.ensures.rows in
+    record { answer = q.0; meaning = ap (λ n. cut n (rows_of (items c.put_end.new.self.roll)) (slot_count c.put_end.new.self.roll) outline_cost) c.put_end.ensures.sealed ∙ ap (λ n. cut c.args.self.now.count (rows_of (items c.put_end.new.self.roll)) n outline_cost) c.put_end.ensures.slots ∙ q.1 }
 
 pub returns-else-row-number : goal.returns-else-row-number
 returns-else-row-number c =
-    let q = put-accepted _ _ (rows_of (items c.args.self.now.roll)) c.args.self.now.drafted (slot_count c.args.self.now.roll) outline_cost c.args.row _ _ (c.has-room.ensures, c.in-ok-judge.ensures) c.put-entry.ensures.rows in
-    record { answer = q.0; meaning = ap (λ n. cut n (rows_of (items c.put-entry.new.self.roll)) (slot_count c.put-entry.new.self.roll) outline_cost) c.put-entry.ensures.sealed ∙ ap (λ n. cut c.args.self.now.count (rows_of (items c.put-entry.new.self.roll)) n outline_cost) c.put-entry.ensures.slots ∙ q.1 }
+    let q = put-accepted _ _ (rows_of (items c.args.self.now.roll)) c.args.self.now.drafted (slot_count c.args.self.now.roll) outline_cost c.args.row _ _ (c.has_room.ensures, c.in_ok-judge.ensures) c.put_entry.ensures.rows in
+    record { answer = q.0; meaning = ap (λ n. cut n (rows_of (items c.put_entry.new.self.roll)) (slot_count c.put_entry.new.self.roll) outline_cost) c.put_entry.ensures.sealed ∙ ap (λ n. cut c.args.self.now.count (rows_of (items c.put_entry.new.self.roll)) n outline_cost) c.put_entry.ensures.slots ∙ q.1 }
