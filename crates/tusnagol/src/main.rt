@@ -10,29 +10,21 @@ mod words;
 
 use command::Command;
 use failure::Failure;
+use std::process::ExitCode;
 use std::{env, io};
 
-// The process ends with status 1, after what went wrong was told.
-#[derive(Drop)]
-struct Failed;
-
-impl From<io::Error> for Failed {
-    fn from(_error: io::Error) -> Failed {
-        Failed
-    }
-}
-
-fn main(rt: HostRuntime) -> Result<(), Failed> {
+// A command that fails ends the process with status 1, after what went wrong was told.
+fn main(rt: HostRuntime) -> io::Result<ExitCode> {
     let words = arguments(&rt)?;
     if words.is_empty() {
         session(&rt)?;
-        return Ok(());
+        return Ok(ExitCode::SUCCESS);
     }
     match run(&rt, words.as_slice()) {
-        Ok(()) => Ok(()),
+        Ok(()) => Ok(ExitCode::SUCCESS),
         Err(failure) => {
             failure.tell(&rt)?;
-            Err(Failed)
+            Ok(ExitCode::FAILURE)
         }
     }
 }

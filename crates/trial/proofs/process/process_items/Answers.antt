@@ -12,7 +12,7 @@ use Rattle.scope.specs.Entries.{bindings_of, ignorables_of, local_of}
 use Rattle.trial.proofs.Firsts.{item_turn, first-process}
 use Rattle.trial.proofs.Entered.{counted, entered_turn, entered_all, placed, behind_item, around_local, pair_entered}
 use Rattle.trial.proofs.process.process_items.Goals as goal
-use Rattle.trial.proofs.process.process_items.Goals.{After-left, at-loop-item-again}
+use Rattle.trial.proofs.process.process_items.Goals.{After-left, at-loop-item-preserved}
 
 pub returns-in_err-space : goal.returns-in_err-space
 unfolding process_items
@@ -64,7 +64,7 @@ loop-item-preserved c =
     let h = c.if-not-add.ensures.held in
     let f = c.in_ok-space.ensures.answer in
     let n = counted _ _ _ h in
-    let l = placed c.at-value.result.now _ _ c.split.result.1.now (unread c.next.new.self) c.at-value.ensures (around (at-loop-item-again c).After-left) in (
+    let l = placed c.at-value.result.now _ _ c.split.result.1.now (unread c.next.new.self) c.at-value.ensures (around (at-loop-item-preserved c).After-left) in (
       search rules,
       entered_turn (λ (i : Bytes). option_map (λ (ns : Bytes). (ns, local_part i)) (bound bindings (prefix_part i))) (named_pairs bindings) c.in-Some.item.now _ _ _ _ _ refl c.loop-item.invariant.1 c.in-Some.ensures.item
           (pair_entered lent bindings c.in-Some.item.now _ _ _ h c.in_ok-space.ensures.space (simp c.left.ensures (l ∙ c.split.ensures.local))),
