@@ -1,11 +1,13 @@
 -- The texts of a table of pairs, and that no two are equal where none is repeated.
-use Rattle.std.proofs.Common.{◌≡◌, ℕ, zero, suc, ◌+◌, ◌-◌, ◌<◌, ◌≤◌, Bool, true, false, cond, not, ◌&&◌, ◌||◌, eqb, ltb, List, [], ◌∷◌, length, get_or, Some, None, sym, refl, ap, ◌∙◌, inl, inr, arith}
+use Rattle.std.proofs.Common.{◌≡◌, ℕ, zero, suc, ◌<◌, ◌≤◌, true, false, eqb, List, [], ◌∷◌, length, get_or, Some, None, sym, refl, ◌∙◌, inl, inr, arith}
 use Rattle.std.specs.Str.{bytes_eq}
-use Rattle.std.proofs.lemmas.Bool.{cases_order, or_parts, and_parts, not-false, not-true, ltb-false, eqb-true, eq-eqb, ne_eqb}
+use Rattle.std.proofs.lemmas.Bool.{cases_order, not-false, eq-eqb, ne_eqb}
 use Rattle.std.proofs.lemmas.Slice.Eq.{bytes_eq-Decides}
 use Rattle.std.specs.List.{slice_get}
 use Rattle.text.specs.Bytes.{Bytes}
-use Rattle.file.specs.Form.{pair_count, offset, ending, misplaced, none_of, repeated, text_of, texts_of, text_at, Distinct}
+use Rattle.file.specs.Form.{pair_count, none_of, repeated, text_of, texts_of, text_at, Distinct}
+use Rattle.file.specs.Texts.{texts}
+use Rattle.file.specs.declared.texts.Texts.{Texts}
 use Rattle.file.proofs.Counted.{counted-length, counted_nth, counted-past}
 use Rattle.file.proofs.Firsts.{none-at}
 
@@ -62,3 +64,8 @@ module _ (pairs bytes : Bytes) where
       let ki : i < pair_count pairs = omega (arith, length-texts) in
       let kj : j < pair_count pairs = omega (arith, length-texts) in
       rw (nth_some (texts_of pairs bytes) i [] (text_of pairs bytes i) (text_nth i ki), nth_some (texts_of pairs bytes) j [] (text_of pairs bytes j) (text_nth j kj)) (distinct_pairs (pair_count pairs) h i j ki kj)
+
+-- however a value of the type came about
+pub few_texts : (t : Texts) → length (texts t) ≤ 1024
+unfolding texts
+few_texts t = omega (arith, length-texts t.pairs.now t.bytes.now, t.few)

@@ -1,5 +1,5 @@
 -- What a checked file holds.
-use Rattle.std.specs.Prelude.{List, Ok, Err, Result}
+use Rattle.std.specs.Prelude.{Ok, Err, Result}
 use Rattle.record.specs.declared.refusal.Refusal.{Refusal}
 use Rattle.file.specs.Form.{Contents, rows_of}
 use Rattle.file.specs.Texts.{texts}

@@ -2,7 +2,6 @@ ghost use Rattle.std.specs.Prelude.{◌≡◌, ◌≤◌, length, IfOk};
 ghost use Rattle.std.specs.List.{slice_get};
 ghost use Rattle.std.specs.Option.{option_map};
 ghost use Rattle.file.specs.Form.{pair_count, read_texts, text_at, Distinct};
-ghost use Rattle.file.specs.Texts.{texts, texts_answer};
 
 use crate::pairs::{first_misplaced, first_repeated, pair_count, text_of};
 use record::refusal::Refusal;
@@ -12,9 +11,12 @@ use record::refusal::Refusal;
 pub struct Texts<'a> {
     pairs: &'a [u8],
     bytes: &'a [u8],
+    ghost few: { pair_count pairs.now ≤ 1024 },
 }
 
 impl<'a> Texts<'a> {
+    ghost use Rattle.file.specs.Texts.{texts, texts_answer};
+
     // The texts of a table, or the first pair that is misplaced, or the first that is repeated.
     pub(crate) fn check(pairs: &'a [u8], bytes: &'a [u8]) -> Result<Texts<'a>, Refusal>
         requires { pair_count pairs.now ≤ 1024 }

@@ -1,4 +1,4 @@
-use Rattle.std.proofs.Common.{ℕ, min, List, ◌++◌, length, take, drop, sym, ap, ◌∙◌, append_assoc, rules}
+use Rattle.std.proofs.Common.{ℕ, List, ◌++◌, take, drop, sym, ap, ◌∙◌, append_assoc, rules}
 use Rattle.std.proofs.lemmas.List.Sums.{prefix_len-le-length}
 use Rattle.items.proofs.Fronts.{prefix-front, local_rest}
 use Rattle.items.proofs.pair.split.Goals as goal

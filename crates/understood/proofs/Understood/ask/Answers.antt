@@ -1,6 +1,6 @@
 use Rattle.std.proofs.Common.{◌≡◌, ◌<◌, ◌≢◌, length, arith, get_or-set_other, get_or-set_same, below_more}
 use Rattle.file.specs.Texts.{texts}
-use Rattle.file.proofs.Sound.{few-texts}
+use Rattle.file.proofs.Sound.{few_texts}
 use Rattle.understood.proofs.Knowings.{knowing_all}
 use Rattle.understood.proofs.Understood.ask.Goals as goal
 
@@ -14,5 +14,5 @@ loop-n-preserved g c = (
 
 pub returns : goal.returns
 returns g c =
-    knowing_all (texts c.args.lent) (g.K.Knowledge.meaning c.args.knowledge.now) c.loop-n.self (few-texts c.args.lent)
+    knowing_all (texts c.args.lent) (g.K.Knowledge.meaning c.args.knowledge.now) c.loop-n.self (few_texts c.args.lent)
     (λ k lt. c.loop-n.invariant.0 k (omega arith)) c.loop-n.invariant.1
