@@ -1,5 +1,5 @@
 -- What a card says: rows 21 (name, 0, 0), 22 (stem, 0, 0) and 23 (namespace, local name, 0).
-use Rattle.std.specs.Prelude.{ℕ, Bool, false, cond, not, ◌&&◌, List, map, length, Ok, Err, filter, Result, ◌==◌, nat_eq, nat_lt}
+use Rattle.std.specs.Prelude.{◌≡◌, ℕ, Bool, true, false, cond, not, ◌&&◌, List, map, length, None, Ok, Err, filter, Result, ◌==◌, nat_eq, nat_lt}
 use Rattle.std.specs.Str.{bytes_eq}
 use Rattle.text.specs.Bytes.{Bytes, begins}
 use Rattle.text.specs.Names.{in_mc}
@@ -44,6 +44,10 @@ abbrev pub as_card : Result Contents Refusal → Result Contents Refusal
 as_card (Err refusal) = Err refusal
 as_card (Ok file) = refuse_at (first_at (wrong_row file.texts) 0 file.rows) BadCardRow (Ok file)
 
+-- no row of a card is wrong
+abbrev pub IsRight : Contents → Type 0
+IsRight card = first_at (wrong_row card.texts) 0 card.rows ≡ None
+
 -- A card opened: the first refusal of the file's form, else the first wrong row, else what the card holds.
 unfoldable pub opened_card : Bytes → Result Contents Refusal
 opened_card file = as_card (opened file)
@@ -75,3 +79,7 @@ family_says card s = some (λ stem. begins stem s) (stems card)
 -- an element is on an extension list by the bytes of its namespace and local name
 unfoldable pub on_list : List Name → Bytes → Bytes → Bool
 on_list list namespace local = some (λ name. bytes_eq name.0 namespace && bytes_eq name.1 local) list
+
+-- a list names no element of MC
+abbrev pub OutsideMc : List Name → Type 0
+OutsideMc list = (namespace local : Bytes) → on_list list namespace local ≡ true → in_mc namespace ≡ false

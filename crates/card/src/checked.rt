@@ -1,7 +1,6 @@
 ghost use Rattle.std.specs.Prelude.{◌≡◌};
 ghost use Rattle.file.specs.Files.{held};
-ghost use Rattle.card.specs.Cards.{opened_card};
-ghost use Rattle.card.specs.Answers.{holds, card_answer};
+ghost use Rattle.card.specs.Cards.{IsRight, opened_card};
 
 use crate::extensions::Extensions;
 use crate::known::{Family, NameList};
@@ -15,9 +14,12 @@ use record::refusal::Refusal;
 #[derive(Clone, Copy)]
 pub struct Card<'a> {
     file: File<'a>,
+    ghost right: { IsRight (held file) },
 }
 
 impl<'a> Card<'a> {
+    ghost use Rattle.card.specs.Answers.{holds, card_answer};
+
     // The card that these bytes are, or the first refusal of a file's form, or the first row that no card may have.
     pub fn check(bytes: &'a [u8]) -> Result<Card<'a>, Refusal>
         ensures { card_answer result ≡ opened_card bytes.now }

@@ -2,7 +2,7 @@ ghost use Rattle.std.specs.Prelude.{◌≡◌, ◌&&◌, ◌==◌};
 ghost use Rattle.std.specs.Str.{bytes_eq};
 ghost use Rattle.file.specs.Form.{text_at};
 ghost use Rattle.file.specs.Files.{held};
-ghost use Rattle.card.specs.Cards.{extensions, on_list};
+ghost use Rattle.card.specs.Cards.{IsRight, extensions, on_list};
 
 use crate::rows::{RowTest, first_row};
 use file::checked::File;
@@ -17,6 +17,7 @@ pub const EXTENSION: u32 = 23;
 #[derive(Clone, Copy)]
 pub struct Extensions<'a> {
     pub(crate) card: File<'a>,
+    ghost right: { IsRight (held card) },
 }
 
 #[derive(Clone, Copy)]

@@ -5,7 +5,7 @@ use Rattle.std.proofs.lemmas.List.{length-append}
 use Rattle.text.specs.Names.{in_mc}
 use Rattle.record.specs.declared.refusal.Refusal.{Refusal}
 use Rattle.knowledge.specs.Understood.{Knows}
-use Rattle.card.specs.Cards.{Name, on_list}
+use Rattle.card.specs.Cards.{Name, OutsideMc}
 use Rattle.rules.specs.declared.state.State.{State}
 use Rattle.rules.specs.declared.state.State.TheVariants.{Kept, Unwrapped, Ignored, Alternate, Branch, Extension}
 use Rattle.rules.specs.Elements.{Tag}
@@ -34,19 +34,15 @@ alternate_only Alternate e = refl
 alternate_only Branch e = refl
 alternate_only Extension e = absurd (false≢true e)
 
-listed_outside : (ext : List Name) (t : Tag) → is_listed ext t ≡ true → in_mc t.namespace ≡ false
+listed_outside : (ext : List Name) (t : Tag) → OutsideMc ext → is_listed ext t ≡ true → in_mc t.namespace ≡ false
 unfolding is_listed
-listed_outside ext t e = outside (in_mc t.namespace) (on_list ext t.namespace t.name) e
-  where
-    outside : (a b : Bool) → (not a && b) ≡ true → a ≡ false
-    outside true b h = absurd (false≢true h)
-    outside false b h = refl
+listed_outside ext t outside e = outside t.namespace t.name e
 
-listed_no_choice : (ext : List Name) (t : Tag) → is_listed ext t ≡ true → is_choice t ≡ false
+listed_no_choice : (ext : List Name) (t : Tag) → OutsideMc ext → is_listed ext t ≡ true → is_choice t ≡ false
 unfolding is_branch
-listed_no_choice ext t e =
+listed_no_choice ext t outside e =
     elim (is_choice t) as (λ (v : Bool). is_choice t ≡ v → v ≡ false) [
-      | true ↦ λ h. absurd (false≢true (sym (listed_outside ext t e) ∙ branch-mc t (ap (λ (v : Bool). v || is_fallback t) h)))
+      | true ↦ λ h. absurd (false≢true (sym (listed_outside ext t outside e) ∙ branch-mc t (ap (λ (v : Bool). v || is_fallback t) h)))
       | false ↦ λ h. refl
     ] refl
 
@@ -64,7 +60,7 @@ module _ (K : Knows) (ext : List Name) (out : Scope) (around : Held) (t : Tag) w
   opens_at true lengths = refl
   opens_at false lengths = refl
 
-  module _ (x : Bool) (e : x ≡ (is_listed ext t || is_extension_state around.state)) (s : Scope) (h : s ≡ at_it x) (met : Bool) (m : met ≡ met_at x s) where
+  module _ (outside : OutsideMc ext) (x : Bool) (e : x ≡ (is_listed ext t || is_extension_state around.state)) (s : Scope) (h : s ≡ at_it x) (met : Bool) (m : met ≡ met_at x s) where
     pub frame-opens : (lengths : Lengths)
         → frame_in s (opened_from (state_in K x s t) around (mc_element t) met lengths) ≡ opened K ext (frame_in out around) t
     unfolding opened
@@ -80,9 +76,9 @@ module _ (K : Knows) (ext : List Name) (out : Scope) (around : Held) (t : Tag) w
 
     met_listed : is_listed ext t ≡ true → met ≡ (is_choice t && is_satisfied K out.bindings t)
     met_listed l =
-        m ∙ ap (λ (z : Bool). not x && (z && all_understood K (named s.bindings (items_of (requires_of t))))) (listed_no_choice ext t l)
+        m ∙ ap (λ (z : Bool). not x && (z && all_understood K (named s.bindings (items_of (requires_of t))))) (listed_no_choice ext t outside l)
         ∙ never x
-        ∙ sym (ap (λ (z : Bool). z && is_satisfied K out.bindings t) (listed_no_choice ext t l))
+        ∙ sym (ap (λ (z : Bool). z && is_satisfied K out.bindings t) (listed_no_choice ext t outside l))
       where
         never : (y : Bool) → (not y && false) ≡ false
         never true = refl
@@ -110,19 +106,19 @@ module _ (K : Knows) (ext : List Name) (out : Scope) (around : Held) (t : Tag) w
   kept-opens false met = refl
 
   -- all of it
-  pub opens_all : (x : Bool) → x ≡ (is_listed ext t || is_extension_state around.state) → (s : Scope) → s ≡ at_it x → (met : Bool) → met ≡ met_at x s
+  pub opens_all : OutsideMc ext → (x : Bool) → x ≡ (is_listed ext t || is_extension_state around.state) → (s : Scope) → s ≡ at_it x → (met : Bool) → met ≡ met_at x s
       → (lengths : Lengths) → lengths ≡ sizes s → (f n : Held) (o : Option Refusal)
       → f ≡ opened_from (state_in K x s t) around (mc_element t) met lengths
       → n ≡ cond (is_alternate_state around.state) (noted_from around (mc_element t) met) around
       → o ≡ first (tag_marks_in K ext (frame_in out around) (frame_in s f) t)
       → Opens K ext out s around t (record { frame = f; around = n; mismatch = o })
-  opens_all x e s h met m lengths l f n o is_f is-n is-o =
-      let w : frame_in s f ≡ opened K ext (frame_in out around) t = ap (frame_in s) is_f ∙ frame-opens x e s h met m lengths in
+  opens_all outside x e s h met m lengths l f n o is_f is-n is-o =
+      let w : frame_in s f ≡ opened K ext (frame_in out around) t = ap (frame_in s) is_f ∙ frame-opens outside x e s h met m lengths in
       record {
         frame = w;
         sized = ap (λ (z : Held). z.lengths) is_f ∙ l;
         kept = ap (λ (z : Held). z.lengths) is-n ∙ kept-opens (is_alternate_state around.state) met;
-        note = λ a. ap (frame_in out) is-n ∙ note-opens x e s h met m a;
+        note = λ a. ap (frame_in out) is-n ∙ note-opens outside x e s h met m a;
         same = λ a. ap (frame_in out) is-n ∙ same-opens (noted_from around (mc_element t) met) a;
         marked = is-o ∙ ap (λ (z : Frame). first (tag_marks_in K ext (frame_in out around) z t)) w;
       }

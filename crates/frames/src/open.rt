@@ -1,7 +1,7 @@
 ghost use Rattle.std.specs.Prelude.{◌≡◌, not, ◌&&◌, ◌||◌, List, if◌then◌else◌};
 ghost use Rattle.file.specs.Texts.{texts};
 ghost use Rattle.knowledge.specs.Understood.{Knows};
-ghost use Rattle.card.specs.Cards.{Name};
+ghost use Rattle.card.specs.Cards.{Name, OutsideMc};
 ghost use Rattle.rules.specs.Scope.{Scope, mc_element, is_choice, is_listed, items_of, requires_of, named, scope_with};
 ghost use Rattle.rules.specs.Steps.{all_understood};
 ghost use Rattle.rules.specs.States.{is_extension_state, is_alternate_state, state_in};
@@ -124,7 +124,7 @@ pub(crate) fn open(
     around: Frame,
     scope: &InScope,
 ) -> Opened
-    ensures { (knows : Knows) (exts : List Name) (out : Scope) → Knowing (texts lent.entry) knows known.now → extension ≡ is_listed exts (tag_of (texts lent.entry) element.entry) || is_extension_state around.state → scope_of (texts lent.entry) scope.now ≡ (if extension then out else scope_with (tag_of (texts lent.entry) element.entry) out) → Opens knows exts out (scope_of (texts lent.entry) scope.now) around (tag_of (texts lent.entry) element.entry) result }
+    ensures { (knows : Knows) (exts : List Name) (out : Scope) → Knowing (texts lent.entry) knows known.now → OutsideMc exts → extension ≡ is_listed exts (tag_of (texts lent.entry) element.entry) || is_extension_state around.state → scope_of (texts lent.entry) scope.now ≡ (if extension then out else scope_with (tag_of (texts lent.entry) element.entry) out) → Opens knows exts out (scope_of (texts lent.entry) scope.now) around (tag_of (texts lent.entry) element.entry) result }
 {
     let met = is_met(element, lent, known, extension, scope);
     let frame = frame_of(element, lent, known, extension, around, met, scope);

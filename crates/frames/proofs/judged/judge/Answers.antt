@@ -4,6 +4,7 @@ use Rattle.rules.specs.States.{faults_in}
 use Rattle.judge.specs.Tags.{tag_of}
 use Rattle.enter.specs.Scopes.{scope_of}
 use Rattle.frames.specs.Lists.{extension_list}
+use Rattle.card.proofs.Outside.{extensions_outside}
 use Rattle.frames.proofs.Opening.{grown-by}
 use Rattle.frames.proofs.judged.judge.Goals as goal
 
@@ -17,11 +18,11 @@ returns-in_err-extension c =
     }
 
 pub returns : goal.returns
-unfolding faults_in
+unfolding faults_in extension_list
 returns c =
     let e = c.in_ok-extension.ensures in
     record {
       answer = e.answer;
-      opens = λ knows k. c.open.ensures knows (extension_list c.args.extensions) (scope_of (texts c.args.lent) c.args.scope.now) k e.extension e.entered;
+      opens = λ knows k. c.open.ensures knows (extension_list c.args.extensions) (scope_of (texts c.args.lent) c.args.scope.now) k (extensions_outside c.args.extensions) e.extension e.entered;
       grown = grown-by _ (tag_of (texts c.args.lent) c.args.element) _ _ e.entered;
     }

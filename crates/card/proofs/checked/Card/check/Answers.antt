@@ -1,4 +1,4 @@
-use Rattle.std.proofs.Common.{sym, refl, ap, arith, rules}
+use Rattle.std.proofs.Common.{sym, refl, ap, rules}
 use Rattle.std.proofs.lemmas.Result.{err_from_is_err_and}
 use Rattle.file.specs.Files.{held}
 use Rattle.card.specs.Cards.{opened_card, as_card, wrong_row}

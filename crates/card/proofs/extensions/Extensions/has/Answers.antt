@@ -1,4 +1,4 @@
-use Rattle.std.proofs.Common.{◌&&◌, eqb, is_some, sym, ap, ◌∙◌}
+use Rattle.std.proofs.Common.{◌&&◌, eqb, is_some, ap, ◌∙◌}
 use Rattle.std.specs.Str.{bytes_eq}
 use Rattle.file.specs.Form.{text_at}
 use Rattle.file.specs.Files.{held}
