@@ -1,5 +1,5 @@
 -- One attribute more.
-use Rattle.std.proofs.Common.{◌≡◌, ℕ, ◌+◌, ◌<◌, ◌≤◌, Bool, true, false, cond, List, [], ◌∷◌, ◌++◌, map, length, get_or, drop, Some, None, Option, sym, refl, ap, ◌∙◌, ap₂}
+use Rattle.std.proofs.Common.{◌≡◌, ℕ, ◌+◌, ◌<◌, ◌≤◌, Bool, true, false, cond, List, [], ◌∷◌, ◌++◌, map, length, get_or, drop, Some, None, refl, ap, ◌∙◌, ap₂}
 use Rattle.std.proofs.lemmas.List.{at_drop_more, drop_all}
 use Rattle.record.specs.declared.row.PlacedRow.{PlacedRow}
 use Rattle.std.specs.Option.{option_map, option_or}

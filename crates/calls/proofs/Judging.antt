@@ -13,7 +13,7 @@ use Rattle.rules.specs.Lists.{In}
 use Rattle.rules.proofs.Members.{left_nil, right_nil}
 use Rattle.rules.proofs.Whole.{first-none}
 use Rattle.rules.proofs.Numbers.{faults_are_numbered}
-use Rattle.calls.specs.Calls.{Taken, Put, put, put_unless, then_put, token_put, tokens_put}
+use Rattle.calls.specs.Calls.{Taken, Put, put_unless, then_put, token_put, tokens_put}
 use Rattle.calls.proofs.Fits.{fit_left, fit_again, FitIn, FirstCannot, behind, behind-none, behind_again, drop-same, PutsEnd, all_end, all_first}
 
 -- a refusal 13 to 21

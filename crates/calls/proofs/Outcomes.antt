@@ -20,7 +20,7 @@ use Rattle.rules.specs.Lists.{Sub, none, skip, same}
 use Rattle.rules.specs.Records.{judged, Sealed, sealing, or_refused, draft, refusal, finished, outcome}
 use Rattle.rules.proofs.Stable.{what_a_row_lets_be_judged, what_was_decided_stays}
 use Rattle.calls.specs.declared.answer.Answer.TheVariants.{Done, Refused}
-use Rattle.calls.specs.Calls.{Taken, taken, Begun, begun, with_row, tokens_of, active, spoilt, Out, out, Put, put_unless, then_put, token_put, tokens_put, fresh, row_put, row_on, finish_on, or_abandoned, rows_on, file_opened, file_on, file, step}
+use Rattle.calls.specs.Calls.{Taken, taken, Begun, begun, with_row, tokens_of, active, spoilt, Out, out, Put, put_unless, then_put, token_put, tokens_put, fresh, row_put, row_on, finish_on, or_abandoned, rows_on, file_opened, file_on, step}
 use Rattle.calls.specs.Book.{kept_in}
 use Rattle.rules.specs.Order.{has_ended, row_faults}
 use Rattle.calls.specs.Promises.{came_out, HasRoomFor, RecordsComeOut}

@@ -19,7 +19,7 @@ use Rattle.rules.specs.Order.{Accepted}
 use Rattle.rules.specs.Lists.{In, open_after}
 use Rattle.calls.specs.declared.answer.Answer.{Answer}
 use Rattle.calls.specs.declared.answer.Answer.TheVariants.{Done, Added, Refused}
-use Rattle.calls.specs.Calls.{taken, Begun, Reading, idle, active, spoilt, Out, out, row_on, finish_on, abandon_on, Call, begin, row, file, finish, abandon, step}
+use Rattle.calls.specs.Calls.{taken, Begun, Reading, idle, active, spoilt, Out, out, row_on, finish_on, abandon_on, Call, begin, row, file, finish, step}
 use Rattle.calls.specs.Book.{New, after, answer_to, sealed_by}
 
 abbrev pub Between : ℕ → ℕ → Refusal → Type 0

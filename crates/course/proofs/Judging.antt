@@ -1,5 +1,5 @@
 -- A row, judged by code: each way that it can go.
-use Rattle.std.proofs.Common.{◌≡◌, ℕ, ◌<◌, Bool, true, false, not, ◌&&◌, List, [], ◌∷◌, ◌++◌, reverse, length, is_some, Some, None, Ok, Err, Option, Result, sym, refl, ap, ◌∙◌, subst, arith}
+use Rattle.std.proofs.Common.{◌≡◌, ℕ, ◌<◌, Bool, true, false, ◌&&◌, List, [], ◌∷◌, ◌++◌, reverse, length, is_some, Some, None, Ok, Err, Option, Result, sym, refl, ap, ◌∙◌, subst, arith}
 use mathlib.Core.Bool.{false≢true}
 use mathlib.Core.List.{tail}
 use Rattle.std.proofs.lemmas.Result.{IfOk-at_ok}
@@ -11,12 +11,12 @@ use Rattle.record.specs.Rows.{kind_of}
 use Rattle.record.specs.declared.refusal.Refusal.{Refusal}
 use Rattle.record.specs.declared.refusal.Refusal.TheVariants.{Misplaced}
 use Rattle.sheet.specs.Sheets.{Model, all_answer, after_all}
-use Rattle.rules.specs.Elements.{Token, tag, text, end, placed_at, tokens}
+use Rattle.rules.specs.Elements.{Token, text, end, placed_at, tokens}
 use Rattle.rules.specs.Scope.{Scope}
 use Rattle.rules.specs.Steps.{when}
-use Rattle.rules.specs.Faults.{fault, first, faults_of}
+use Rattle.rules.specs.Faults.{fault, first}
 use Rattle.rules.specs.Order.{row_faults}
-use Rattle.rules.specs.Records.{judged, waiting, newly_judged}
+use Rattle.rules.specs.Records.{judged, newly_judged}
 use Rattle.trial.specs.Answers.{refusal_of}
 use Rattle.calls.specs.Calls.{Taken, begun, Put, put, put_unless, row_put, is_of_sheet}
 use Rattle.scope.specs.Bounded.{held}

@@ -1,9 +1,8 @@
 -- What a course stands for at the begin and at the end of a record.
-use Rattle.std.proofs.Common.{◌≡◌, true, cond, List, [], ◌∷◌, length, Some, None, sym, refl, ap, ◌∙◌, subst, arith}
+use Rattle.std.proofs.Common.{◌≡◌, true, List, [], ◌∷◌, None, sym, refl, ap, ◌∙◌, subst, arith}
 use Rattle.std.proofs.lemmas.List.{drop_all}
 use Rattle.text.specs.Bytes.{Bytes}
 use Rattle.record.specs.declared.row.Row.{Row}
-use Rattle.record.specs.declared.refusal.Refusal.TheVariants.{OutOfOrder}
 use Rattle.knowledge.specs.Understood.{Knows}
 use Rattle.card.specs.Cards.{Name}
 use Rattle.rules.specs.Elements.{Token, tokens, around}

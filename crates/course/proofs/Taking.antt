@@ -1,5 +1,5 @@
 -- A row taken by code.
-use Rattle.std.proofs.Common.{◌≡◌, ℕ, Bool, true, false, List, [], ◌∷◌, ◌++◌, reverse, length, Some, None, Ok, Err, Option, Result, sym, refl, ap, ◌∙◌, subst, arith}
+use Rattle.std.proofs.Common.{◌≡◌, ℕ, List, [], ◌∷◌, ◌++◌, reverse, length, Some, Ok, Err, Option, Result, sym, ap, ◌∙◌, subst, arith}
 use Rattle.std.proofs.lemmas.Result.{IfOk-at_ok}
 use Rattle.record.specs.declared.row.Row.{Row}
 use Rattle.record.specs.declared.row.PlacedRow.{PlacedRow}
@@ -11,7 +11,7 @@ use Rattle.rules.specs.Elements.{Token, placed_at, tokens}
 use Rattle.rules.specs.Scope.{Scope}
 use Rattle.rules.specs.Order.{row_faults}
 use Rattle.rules.specs.Records.{judged, newly_judged}
-use Rattle.calls.specs.Calls.{Taken, is_of_sheet}
+use Rattle.calls.specs.Calls.{Taken}
 use Rattle.scope.specs.Bounded.{held}
 use Rattle.enter.specs.declared.in_scope.Lengths.{Lengths}
 use Rattle.enter.specs.Scopes.{scope_of, lengths_of, scope_before}
@@ -19,7 +19,6 @@ use Rattle.enter.proofs.Before.{sizes-of}
 use Rattle.understood.specs.Answers.{asked}
 use Rattle.order.specs.declared.progress.Progress.{Progress}
 use Rattle.order.specs.Following.{Follows}
-use Rattle.frames.specs.declared.frame.Frame.{Frame as Held}
 use Rattle.frames.specs.Settle.{Settled}
 use Rattle.course.specs.declared.Course.{Course}
 use Rattle.course.specs.Standing.{frames_of, Stands}

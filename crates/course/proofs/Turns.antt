@@ -1,9 +1,7 @@
 -- One row more.
-use Rattle.std.proofs.Common.{◌≡◌, ℕ, zero, suc, ◌<◌, ◌≤◌, Bool, true, false, not, ◌&&◌, ◌||◌, leb, List, [], ◌∷◌, ◌++◌, length, Some, None, Ok, Err, Option, Result, sym, refl, ap, ◌∙◌, subst, arith}
+use Rattle.std.proofs.Common.{◌≡◌, ◌≤◌, true, false, not, ◌&&◌, ◌||◌, leb, List, [], ◌∷◌, ◌++◌, length, Some, None, Ok, Err, Option, Result, sym, refl, ap, ◌∙◌, subst, arith}
 use mathlib.Core.Bool.{false≢true}
-use mathlib.Core.List.{tail}
 use Rattle.std.proofs.lemmas.Bool.{leb-false}
-use Rattle.text.specs.Bytes.{Bytes}
 use Rattle.record.specs.declared.row.Row.{Row}
 use Rattle.record.specs.declared.row.PlacedRow.{PlacedRow}
 use Rattle.record.specs.declared.row.Kind.{Kind}
@@ -11,27 +9,25 @@ use Rattle.record.specs.declared.row.Kind.TheVariants.{Start, Declaration, Attri
 use Rattle.record.specs.Rows.{kind_of}
 use Rattle.record.specs.declared.refusal.Refusal.{Refusal}
 use Rattle.record.specs.declared.refusal.Refusal.TheVariants.{Misplaced}
-use Rattle.knowledge.specs.Understood.{Knows}
-use Rattle.card.specs.Cards.{Name}
 use Rattle.sheet.specs.Sheets.{Model}
-use Rattle.rules.specs.Elements.{Tag, Token, tag, text, end, placed_at, tokens, add, on_top, with_decl, with_attr, decl_of, attr_of, start_of, element, children, Element, around}
+use Rattle.rules.specs.Elements.{Token, text, end, placed_at, tokens, add, with_decl, with_attr, decl_of, attr_of, Element, around}
 use Rattle.rules.specs.Scope.{Scope}
 use Rattle.rules.specs.Steps.{when, kept_of}
 use Rattle.rules.specs.Faults.{fault, first, faults_of}
-use Rattle.rules.specs.Order.{is_none, is_in_order, is_at_limit, on_tag, row_faults}
+use Rattle.rules.specs.Order.{is_none, is_in_order, is_at_limit, row_faults}
 use Rattle.rules.specs.Records.{judged, waiting, newly_judged}
 use Rattle.rules.specs.States.{faults_in}
 use Rattle.rules.proofs.Members.{left_nil, right_nil, no_fault}
 use Rattle.rules.proofs.Stable.{what_a_row_lets_be_judged}
 use Rattle.calls.specs.Calls.{Taken, begun, Put, put, put_unless, then_put, token_put, tokens_put, row_put}
-use Rattle.enter.specs.Scopes.{scope_of, scope_before}
-use Rattle.understood.specs.Answers.{asked, Knowing}
+use Rattle.enter.specs.Scopes.{scope_of}
+use Rattle.understood.specs.Answers.{asked}
 use Rattle.order.specs.Following.{Follows}
 use Rattle.order.proofs.Rests.{around_on_top, tail_length}
 use Rattle.frames.specs.declared.frame.Frame.{Frame as Held}
 use Rattle.frames.specs.Stacks.{innermost}
 use Rattle.frames.specs.Settle.{Settled}
-use Rattle.frames.proofs.Settling.{text-kept, text-settled, end_refused, end_kept, end-settled}
+use Rattle.frames.proofs.Settling.{text-kept, end_refused, end_kept}
 use Rattle.course.specs.declared.Course.{Course}
 use Rattle.course.specs.Standing.{frames_of, Stands}
 use Rattle.course.specs.Rows.{keeps_in, ends_empty, row_in}

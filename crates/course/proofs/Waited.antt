@@ -1,8 +1,6 @@
 -- The element that waits, judged by code: each way that it can go.
-use Rattle.std.proofs.Common.{◌≡◌, ℕ, ◌≤◌, Bool, true, false, eqb, ◌⊎◌, List, [], ◌∷◌, Some, None, Ok, Err, Option, Result, sym, refl, ap, ◌∙◌, subst, inl, arith}
+use Rattle.std.proofs.Common.{◌≡◌, ℕ, true, List, [], ◌∷◌, Some, None, Ok, Err, Option, Result, sym, ap, ◌∙◌, subst, inl, arith}
 use Rattle.std.proofs.lemmas.Bool.{eqb-true}
-use Rattle.std.specs.Option.{option_or}
-use Rattle.std.proofs.lemmas.Result.{IfOk-from_err}
 use Rattle.record.specs.declared.row.Row.{Row}
 use Rattle.record.specs.declared.refusal.Refusal.{Refusal}
 use Rattle.record.specs.Refusals.{numbered}
@@ -23,12 +21,11 @@ use Rattle.verdict.specs.Puts.{Puts}
 use Rattle.frames.specs.declared.frame.Frame.{Frame as Held}
 use Rattle.frames.specs.declared.opened.Opened.{Opened}
 use Rattle.frames.specs.Stacks.{frame_in, innermost, Grown}
-use Rattle.frames.specs.Settle.{Settled}
 use Rattle.frames.specs.Opens.{Opens}
 use Rattle.enter.proofs.Before.{before_all}
 use Rattle.course.specs.declared.Course.{Course}
 use Rattle.course.specs.Standing.{frames_of, Stands}
-use Rattle.course.specs.Taking.{wait_put, with_opened, with_mark, Waited}
+use Rattle.course.specs.Taking.{wait_put, Waited}
 use Rattle.course.proofs.Waits.{none-put, none-settled, one-refused, one_faulted, one_kept, one-settled}
 
 -- a refusal of the rules is none of a sheet

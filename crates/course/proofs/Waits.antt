@@ -1,7 +1,6 @@
 -- The element that waits, judged.
-use Rattle.std.proofs.Common.{◌≡◌, ℕ, zero, suc, ◌<◌, ◌≤◌, Bool, true, false, List, [], ◌∷◌, ◌++◌, length, Some, None, Ok, Err, Option, Result, sym, refl, ap, ◌∙◌, subst, arith}
+use Rattle.std.proofs.Common.{◌≡◌, suc, ◌<◌, List, [], ◌∷◌, ◌++◌, length, Some, None, Ok, Err, Option, sym, refl, ap, ◌∙◌, subst, arith}
 use Rattle.std.specs.Option.{option_or}
-use Rattle.text.specs.Bytes.{Bytes}
 use Rattle.record.specs.declared.row.Row.{Row}
 use Rattle.record.specs.declared.row.PlacedRow.{PlacedRow}
 use Rattle.record.specs.declared.refusal.Refusal.{Refusal}
@@ -13,9 +12,9 @@ use Rattle.rules.specs.Scope.{Scope}
 use Rattle.rules.specs.Steps.{kept_of}
 use Rattle.rules.specs.Faults.{first, faults_of}
 use Rattle.rules.specs.Records.{judged, waiting}
-use Rattle.rules.specs.States.{Frame, tag_kept_in, opened, frames, frames_around, faults_in}
-use Rattle.calls.specs.Calls.{Taken, Put, put, put_unless, token_put, tokens_put}
-use Rattle.enter.specs.Scopes.{scope_of, sizes}
+use Rattle.rules.specs.States.{Frame, tag_kept_in, frames, frames_around, faults_in}
+use Rattle.calls.specs.Calls.{Taken, put, put_unless, token_put, tokens_put}
+use Rattle.enter.specs.Scopes.{scope_of}
 use Rattle.frames.specs.declared.frame.Frame.{Frame as Held}
 use Rattle.frames.specs.declared.opened.Opened.{Opened}
 use Rattle.frames.specs.Stacks.{frame_in, innermost, renoted, Grown}

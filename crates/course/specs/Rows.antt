@@ -1,9 +1,8 @@
 -- A text or an end, judged by the state of the element around it together with its own kind.
-use Rattle.std.specs.Prelude.{Bool, true, false, not, ◌&&◌, List, None, Option}
+use Rattle.std.specs.Prelude.{Bool, true, false, not, ◌&&◌}
 use Rattle.record.specs.declared.row.PlacedRow.{PlacedRow}
 use Rattle.record.specs.declared.row.Kind.{Kind}
 use Rattle.record.specs.declared.row.Kind.TheVariants.{Start, Declaration, Attribute, Text, End}
-use Rattle.record.specs.declared.refusal.Refusal.{Refusal}
 use Rattle.record.specs.declared.refusal.Refusal.TheVariants.{Misplaced}
 use Rattle.rules.specs.declared.state.State.{State}
 use Rattle.rules.specs.Steps.{when}

@@ -1,5 +1,5 @@
 -- What was in scope before: the eldest entries.
-use Rattle.std.proofs.Common.{◌≡◌, ℕ, ◌+◌, ◌-◌, ◌≤◌, List, [], ◌∷◌, ◌++◌, map, reverse, length, take, drop, sym, refl, ap, ◌∙◌, arith}
+use Rattle.std.proofs.Common.{◌≡◌, ℕ, ◌+◌, ◌-◌, ◌≤◌, List, ◌++◌, map, reverse, length, take, drop, sym, refl, ap, ◌∙◌, arith}
 use Rattle.std.proofs.lemmas.List.{map-append, reverse-append, length-map, length-reverse, length-append, length-drop, take-append-drop, drop_at, drop-drop}
 use Rattle.text.specs.Bytes.{Bytes}
 use Rattle.rules.specs.Elements.{Tag}

@@ -1,12 +1,11 @@
 -- The declarations and lists of an element: the first of their faults, and the entries that they make.
-use Rattle.std.proofs.Common.{◌≡◌, ℕ, ◌+◌, ltb, List, [], ◌∷◌, ◌++◌, map, reverse, length, IfOk, Some, None, Ok, Err, Option, Result, sym, refl, ap, ◌∙◌, ap₂, append_assoc, arith}
+use Rattle.std.proofs.Common.{◌≡◌, ◌+◌, ltb, List, [], ◌∷◌, ◌++◌, map, reverse, length, IfOk, Some, None, Ok, Err, Option, Result, sym, refl, ap, ◌∙◌, ap₂, append_assoc, arith}
 use Rattle.std.specs.Option.{option_or}
 use Rattle.std.proofs.lemmas.List.{map-append, reverse-append, length-map, length-reverse, length-append}
 use Rattle.text.specs.Bytes.{Bytes}
 use Rattle.record.specs.declared.refusal.Refusal.{Refusal}
 use Rattle.record.specs.declared.refusal.Refusal.TheVariants.{ScopeFull}
 use Rattle.record.specs.declared.row.PlacedRow.{PlacedRow}
-use Rattle.card.specs.Cards.{Name}
 use Rattle.rules.specs.Elements.{Tag, decl_of, attr_of}
 use Rattle.rules.specs.Scope.{Binding, Scope, first_with, is_ignorable, is_process_content, is_must_understand, ignorable_of, process_content_of, must_understand_of, items_of, named, named_pairs, binding_of, bindings_with, ignorables_with, processed_with, scope_with}
 use Rattle.rules.specs.Faults.{first, fault, start_name_faults, attr_name_faults, ignorable_faults, process_faults, must_faults}

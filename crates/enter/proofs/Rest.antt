@@ -1,5 +1,5 @@
 -- The trials of an element behind its lists, and the two halves together.
-use Rattle.std.proofs.Common.{◌≡◌, Bool, List, ◌++◌, Some, None, Option, sym, refl, ap, ◌∙◌, ap₂, append_assoc}
+use Rattle.std.proofs.Common.{◌≡◌, Bool, List, ◌++◌, Some, None, Option, sym, ap, ◌∙◌, ap₂, append_assoc}
 use Rattle.text.specs.Names.{in_mc}
 use Rattle.record.specs.declared.refusal.Refusal.{Refusal}
 use Rattle.knowledge.specs.Understood.{Knows}

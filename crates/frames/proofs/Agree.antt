@@ -1,17 +1,14 @@
 -- Frames that agree judge every row alike.
-use Rattle.std.proofs.Common.{◌≡◌, Bool, true, false, cond, not, ◌&&◌, ◌||◌, List, [], ◌∷◌, ◌++◌, Some, None, Option, sym, refl, ap, ◌∙◌, subst, arith}
+use Rattle.std.proofs.Common.{◌≡◌, Bool, true, false, cond, not, ◌&&◌, ◌||◌, List, [], ◌∷◌, Some, None, Option, sym, refl, ap, ◌∙◌, arith}
 use mathlib.Core.Bool.{false≢true}
 use Rattle.std.specs.Option.{option_or}
 use Rattle.record.specs.declared.row.PlacedRow.{PlacedRow}
-use Rattle.record.specs.declared.refusal.Refusal.{Refusal}
 use Rattle.record.specs.declared.refusal.Refusal.TheVariants.{Misplaced}
 use Rattle.knowledge.specs.Understood.{Knows}
 use Rattle.card.specs.Cards.{Name}
 use Rattle.text.specs.declared.names.McElement.{McElement}
 use Rattle.text.specs.declared.names.McElement.TheVariants.{AlternateContent, Choice, Fallback}
-use Rattle.rules.specs.declared.state.State.{State}
-use Rattle.rules.specs.declared.state.State.TheVariants.{Kept, Unwrapped, Ignored, Alternate, Branch, Extension}
-use Rattle.rules.specs.Elements.{Tag, Token, tag, text, end}
+use Rattle.rules.specs.Elements.{Tag, tag, text, end}
 use Rattle.rules.specs.Scope.{mc_element, choice, fallback, is_choice, is_fallback, is_branch, Scope, is_ignorable_in, scope_with, is_listed}
 use Rattle.rules.specs.Steps.{is_satisfied}
 use Rattle.rules.specs.Faults.{fault, first, place_faults, element_faults, tag_faults}

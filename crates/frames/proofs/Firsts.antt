@@ -1,5 +1,5 @@
 -- The first mismatch of a tag's own rows.
-use Rattle.std.proofs.Common.{◌≡◌, ℕ, Bool, true, false, cond, not, ◌&&◌, List, [], ◌∷◌, ◌++◌, Some, None, Option, sym, refl, ap, ◌∙◌}
+use Rattle.std.proofs.Common.{◌≡◌, ℕ, Bool, true, false, cond, not, ◌&&◌, List, ◌++◌, Some, Option, sym, refl, ap, ◌∙◌}
 use Rattle.record.specs.declared.refusal.Cause.{Cause}
 use Rattle.record.specs.declared.refusal.Cause.TheVariants.{StrayChild, ForeignName}
 use Rattle.record.specs.declared.refusal.Refusal.{Refusal}

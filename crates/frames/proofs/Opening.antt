@@ -1,5 +1,5 @@
 -- What a start opens, from its parts.
-use Rattle.std.proofs.Common.{◌≡◌, ℕ, ◌≤◌, Bool, true, false, cond, not, ◌&&◌, ◌||◌, List, [], ◌∷◌, ◌++◌, length, Some, None, Option, sym, refl, ap, ◌∙◌, subst, arith}
+use Rattle.std.proofs.Common.{◌≡◌, Bool, true, false, cond, not, ◌&&◌, ◌||◌, List, Option, sym, refl, ap, ◌∙◌, subst, arith}
 use mathlib.Core.Bool.{false≢true}
 use Rattle.std.proofs.lemmas.List.{length-append}
 use Rattle.text.specs.Names.{in_mc}
@@ -9,17 +9,16 @@ use Rattle.card.specs.Cards.{Name, OutsideMc}
 use Rattle.rules.specs.declared.state.State.{State}
 use Rattle.rules.specs.declared.state.State.TheVariants.{Kept, Unwrapped, Ignored, Alternate, Branch, Extension}
 use Rattle.rules.specs.Elements.{Tag}
-use Rattle.rules.specs.Scope.{Scope, mc_element, choice, fallback, is_choice, is_fallback, is_branch, items_of, requires_of, named, bindings_with, ignorables_with, processed_with, scope_with, is_listed}
+use Rattle.rules.specs.Scope.{Scope, mc_element, is_choice, is_fallback, is_branch, items_of, requires_of, named, bindings_with, ignorables_with, processed_with, scope_with, is_listed}
 use Rattle.rules.specs.Steps.{all_understood, is_satisfied}
 use Rattle.rules.specs.Faults.{first}
 use Rattle.rules.specs.States.{Frame, state_by, state_in, is_extension_state, is_alternate_state, entered_by, reached_in, selected_in, opened_by, opened, noted, tag_marks_in}
 use Rattle.rules.proofs.Names.{branch-mc}
 use Rattle.enter.specs.declared.in_scope.Lengths.{Lengths}
-use Rattle.enter.specs.Scopes.{sizes, scope_before}
+use Rattle.enter.specs.Scopes.{sizes}
 use Rattle.enter.proofs.Before.{before_all, before_with}
 use Rattle.frames.specs.declared.frame.Frame.{Frame as Held}
-use Rattle.frames.specs.declared.opened.Opened.{Opened}
-use Rattle.frames.specs.Parts.{reached_from, selected_from, opened_from, noted_from}
+use Rattle.frames.specs.Parts.{opened_from, noted_from}
 use Rattle.frames.specs.Stacks.{frame_in, Within, Grown}
 use Rattle.frames.specs.Opens.{Opens}
 

@@ -1,8 +1,7 @@
 -- The rows of a tag that are kept, by the state of its element.
-use Rattle.std.proofs.Common.{◌≡◌, Bool, true, false, not, ◌⊎◌, List, [], ◌∷◌, Result, sym, refl, ap, ◌∙◌, subst, inl, inr}
+use Rattle.std.proofs.Common.{◌≡◌, Bool, true, false, not, ◌⊎◌, List, [], Result, sym, refl, ap, ◌∙◌, subst, inl, inr}
 use mathlib.Core.Bool.{false≢true}
 use Rattle.text.specs.Bytes.{Bytes}
-use Rattle.record.specs.declared.row.PlacedRow.{PlacedRow}
 use Rattle.record.specs.declared.refusal.Refusal.{Refusal}
 use Rattle.knowledge.specs.Understood.{Knows}
 use Rattle.rules.specs.declared.state.State.{State}

@@ -1,24 +1,22 @@
 -- What is held of judged tokens, with one token more.
-use Rattle.std.proofs.Common.{◌≡◌, ℕ, zero, suc, ◌≤◌, Bool, true, false, cond, not, ◌&&◌, List, [], ◌∷◌, ◌++◌, Some, None, Option, sym, refl, ap, ◌∙◌, subst, append-nil}
+use Rattle.std.proofs.Common.{◌≡◌, true, false, ◌&&◌, List, [], ◌∷◌, ◌++◌, None, Option, sym, refl, ap, ◌∙◌, subst, append-nil}
 use Rattle.std.specs.Option.{option_or}
 use Rattle.record.specs.declared.row.PlacedRow.{PlacedRow}
 use Rattle.record.specs.declared.refusal.Refusal.{Refusal}
-use Rattle.record.specs.declared.refusal.Refusal.TheVariants.{Misplaced}
 use Rattle.knowledge.specs.Understood.{Knows}
 use Rattle.card.specs.Cards.{Name}
 use Rattle.rules.specs.Elements.{Tag, Token, tag, text, end}
 use Rattle.rules.specs.Scope.{Scope}
 use Rattle.rules.specs.Steps.{when, kept_of}
 use Rattle.rules.specs.Mismatches.{marks_of, mismatches}
-use Rattle.rules.specs.Faults.{fault, first, faults_of, faults}
-use Rattle.rules.specs.States.{Frame, is_alternate_state, keeps_text, keeps_end, tag_kept_in, opened, noted, ended, step, frames, faults_in, kept_in, tag_marks_in, marks_in}
+use Rattle.rules.specs.Faults.{first, faults_of, faults}
+use Rattle.rules.specs.States.{Frame, is_alternate_state, keeps_text, keeps_end, tag_kept_in, opened, noted, step, frames, faults_in, kept_in, tag_marks_in, marks_in}
 use Rattle.rules.proofs.Firsts.{first_append}
 use Rattle.rules.proofs.Whole.{first-none}
 use Rattle.rules.proofs.Frames.{states_follow}
 use Rattle.rules.proofs.Judged.{rows_follow_states}
 use Rattle.enter.specs.Scopes.{sizes, scope_before}
 use Rattle.frames.specs.declared.frame.Frame.{Frame as Held}
-use Rattle.frames.specs.Agrees.{Agrees}
 use Rattle.frames.specs.Stacks.{frame_in, innermost, renoted, Within, Stacked}
 use Rattle.frames.specs.Settle.{Settled}
 use Rattle.frames.proofs.Agree.{agrees-faults, agrees-opened, agrees-marks, agrees_kept_text, agrees_kept_end, agrees_faults_end}

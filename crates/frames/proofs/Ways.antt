@@ -1,5 +1,5 @@
 -- The three ways of a tag's trial.
-use Rattle.std.proofs.Common.{◌≡◌, Bool, true, false, ◌||◌, List, Some, None, Option, sym, refl, ap, ◌∙◌}
+use Rattle.std.proofs.Common.{◌≡◌, Bool, true, false, ◌||◌, List, None, Option, refl, ap, ◌∙◌}
 use Rattle.text.specs.Bytes.{Bytes}
 use Rattle.record.specs.declared.refusal.Refusal.{Refusal}
 use Rattle.knowledge.specs.Understood.{Knows}

@@ -1,8 +1,6 @@
 -- Frames that judge alike: what a frame notes of children counts in an AlternateContent only.
-use Rattle.std.specs.Prelude.{◌≡◌, Bool, true, false}
-use Rattle.knowledge.specs.Understood.{Knows}
-use Rattle.rules.specs.Elements.{Tag}
-use Rattle.rules.specs.States.{Frame, is_alternate_state, noted}
+use Rattle.std.specs.Prelude.{◌≡◌, Bool, true}
+use Rattle.rules.specs.States.{Frame, is_alternate_state}
 
 -- the frame with other notes on its children
 unfoldable pub flagged : Frame → Bool → Bool → Bool → Frame

@@ -1,6 +1,6 @@
 -- The parts of what a start opens, by the frame around it, the name of the element in markup compatibility, if it has one, and whether
 -- it is a Choice whose requirements are met.
-use Rattle.std.specs.Prelude.{Bool, false, cond, not, ◌&&◌, ◌||◌, Option}
+use Rattle.std.specs.Prelude.{Bool, false, not, ◌&&◌, ◌||◌, Option}
 use Rattle.text.specs.declared.names.McElement.{McElement}
 use Rattle.rules.specs.declared.state.State.{State}
 use Rattle.rules.specs.Scope.{choice, fallback}

@@ -1,11 +1,11 @@
 -- What an outline keeps, when it is new, when a row is put, and when its draft is sealed or dropped.
-use Rattle.std.proofs.Common.{◌≡◌, ℕ, zero, suc, ◌+◌, ◌-◌, ◌*◌, ◌<◌, ◌≤◌, Bool, true, false, cond, ◌&&◌, T, eqb, ltb, leb, List, [], ◌∷◌, ◌++◌, length, take, drop, set, Some, None, Ok, Option, sym, refl, ap, ◌∙◌, subst, add-one, arith, length-set, eqb-true}
+use Rattle.std.proofs.Common.{◌≡◌, ℕ, suc, ◌+◌, ◌-◌, ◌*◌, ◌<◌, ◌≤◌, Bool, true, false, cond, ◌&&◌, T, eqb, List, [], ◌∷◌, ◌++◌, length, take, set, Some, None, Ok, Option, sym, refl, ap, ◌∙◌, subst, add-one, arith, length-set, eqb-true}
 use Rattle.std.specs.List.{slice_get}
-use Rattle.std.proofs.lemmas.List.{length_push, take-append-le, take_all, take-take, take-set-le, length-take-le}
+use Rattle.std.proofs.lemmas.List.{length_push, take-append-le, take_all, take-set-le, length-take-le}
 use Rattle.record.specs.declared.row.PlacedRow.{PlacedRow}
 use Rattle.record.specs.Rows.{kind_of}
 use Rattle.roll.specs.Rolls.{items}
-use Rattle.sheet.specs.Rows.{Rows, is_start, is_end, formed, well_formed, open_behind, open_in, closes, pairs, cost_of, spent}
+use Rattle.sheet.specs.Rows.{is_start, is_end, formed, well_formed, open_behind, open_in, pairs, cost_of, spent}
 use Rattle.sheet.specs.declared.tail.Tail.{Tail}
 use Rattle.sheet.specs.Tails.{tail_of, judged, tail_behind, Drafted}
 use Rattle.sheet.proofs.Drafts.{accepted-closes, accepted-formed, drafted_starts, drafted-put, drafted_seal, drafted-drop}

@@ -1,5 +1,5 @@
 -- Rows found by their numbers, when an entry is added and when an open start is closed.
-use Rattle.std.proofs.Common.{◌≡◌, ℕ, zero, suc, ◌+◌, ◌-◌, ◌<◌, ◌≤◌, Bool, true, false, ◌&&◌, T, eqb, ltb, leb, ◌≢◌, ◌⊎◌, List, [], ◌∷◌, ◌++◌, length, set, Some, None, Option, sym, refl, ap, ◌∙◌, subst, inl, inr, ⊎_elim, arith, length-set}
+use Rattle.std.proofs.Common.{◌≡◌, ℕ, zero, suc, ◌+◌, ◌-◌, ◌<◌, ◌≤◌, ◌&&◌, T, ltb, List, [], ◌∷◌, ◌++◌, length, set, Some, None, Option, sym, refl, ap, ◌∙◌, subst, ⊎_elim, arith, length-set}
 use Rattle.std.specs.List.{slice_get}
 use Rattle.std.proofs.lemmas.List.{length_push}
 use Rattle.std.proofs.lemmas.Option.{slice_get_past}
@@ -7,8 +7,7 @@ use Rattle.std.proofs.lemmas.Bool.{cases_lt, cases_eq}
 use Rattle.record.specs.declared.row.PlacedRow.{PlacedRow}
 use Rattle.sheet.specs.Rows.{Rows}
 use Rattle.outline.specs.declared.entry.Entry.{Entry}
-use Rattle.outline.specs.declared.entry.Span.{Span}
-use Rattle.outline.specs.declared.entry.Span.TheVariants.{Leaf, Open, Closed}
+use Rattle.outline.specs.declared.entry.Span.TheVariants.{Open}
 use Rattle.outline.specs.Entries.{end_row, innermost, closed_by}
 use Rattle.outline.specs.Found.{number_or, number_at, around_of, around_at, climbed, end_in, end_for, end_at, found_from, found_at, same_answer, stands_by, Findable, top_from, LeadsUp}
 use Rattle.outline.proofs.Nths.{both, join, nth_lt, nth_some, nth_push_lt, nth_push_at, nth_set_same, nth_set_other}

@@ -1,5 +1,5 @@
 -- The item at a number, in a list that is pushed to or written over; tests joined.
-use Rattle.std.proofs.Common.{◌≡◌, ℕ, zero, suc, ◌+◌, ◌<◌, ◌≤◌, Bool, true, false, ◌&&◌, T, ◌≢◌, List, [], ◌∷◌, ◌++◌, length, set, Some, None, refl, ap, ◌∙◌, arith}
+use Rattle.std.proofs.Common.{◌≡◌, ℕ, zero, suc, ◌<◌, Bool, true, false, ◌&&◌, T, ◌≢◌, List, [], ◌∷◌, ◌++◌, length, set, Some, refl, ap, arith}
 use Rattle.std.specs.List.{slice_get}
 
 pub both : (a b : Bool) → T (a && b) → T a × T b

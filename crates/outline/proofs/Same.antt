@@ -1,5 +1,5 @@
 -- The tests of equal rows.
-use Rattle.std.proofs.Common.{◌≡◌, Bool, true, false, ◌&&◌, T, eqb, [], ◌∷◌, Some, None, Option, refl, ap, ◌∙◌, arith}
+use Rattle.std.proofs.Common.{◌≡◌, T, [], ◌∷◌, Some, None, Option, refl, ap, ◌∙◌, arith}
 use Rattle.record.specs.declared.row.PlacedRow.{PlacedRow}
 use Rattle.sheet.specs.Rows.{Rows}
 use Rattle.outline.specs.Found.{same_row, same_rows, same_answer}

@@ -1,5 +1,5 @@
 -- The entries of an outline, and the rows that they stand for.
-use Rattle.std.specs.Prelude.{ℕ, ◌+◌, cond, List, [], ◌∷◌, ◌++◌, Some, None, Option, ◌==◌}
+use Rattle.std.specs.Prelude.{ℕ, ◌+◌, cond, List, [], ◌∷◌, ◌++◌, Some, Option, ◌==◌}
 use Rattle.record.specs.declared.row.PlacedRow.{PlacedRow}
 use Rattle.record.specs.declared.row.Kind.TheVariants.{End}
 use Rattle.record.specs.Rows.{kind_number}

@@ -12,17 +12,16 @@ use Rattle.rules.specs.Elements.{tokens}
 use Rattle.rules.specs.Mismatches.{mismatches}
 use Rattle.rules.specs.Faults.{first}
 use Rattle.rules.specs.Order.{has_ended, row_faults}
-use Rattle.trial.specs.Answers.{refusal_of}
 use Rattle.calls.specs.declared.answer.Answer.{Answer}
 use Rattle.calls.specs.declared.answer.Answer.TheVariants.{Done, Added, Refused}
-use Rattle.calls.specs.Calls.{Taken, taken, Begun, begun, Reading, idle, active, spoilt, Out, out, Put, row_put, row_judged, row_tried, handed_back, is_of_sheet, finish_sealed, finish_marked, finish_ended, begin_on, row_on, finish_on, abandon_on}
+use Rattle.calls.specs.Calls.{Taken, taken, Begun, begun, Reading, idle, active, spoilt, Out, row_put, row_judged, row_tried, handed_back, is_of_sheet, finish_sealed, finish_marked, finish_ended, begin_on, row_on, finish_on, abandon_on}
 use Rattle.frames.specs.Lists.{extension_list}
 use Rattle.course.specs.declared.Course.{Course}
 use Rattle.course.specs.Standing.{Stands}
 use Rattle.course.specs.Taking.{Took}
 use Rattle.reader.specs.declared.state.Source.{Source}
 use Rattle.reader.specs.declared.state.Reader.{Reader}
-use Rattle.reader.specs.Holding.{Active, Spoiled, Holds, Does}
+use Rattle.reader.specs.Holding.{Active, Holds, Does}
 
 none-some : {X : Type 0} (x : X) → ◌≡◌ {A = Option X} None (Some x) → ⊥
 none-some x e = let z : ◌≡◌ {A = ℕ} 0 1 = cc in omega arith

@@ -1,26 +1,22 @@
 -- Mismatches come in the order of their places, one to a row; the refusals of an element are numbered 13 to 20.
-use Rattle.std.proofs.Common.{◌≡◌, ℕ, zero, suc, ◌≤◌, Bool, true, false, not, ◌&&◌, ◌||◌, ◌⊎◌, List, [], ◌∷◌, ◌++◌, map, sym, refl, ap, ◌∙◌, subst, inl, inr, append_assoc, arith}
+use Rattle.std.proofs.Common.{◌≡◌, ℕ, zero, suc, ◌≤◌, Bool, true, false, not, ◌&&◌, List, [], ◌∷◌, ◌++◌, map, sym, refl, ap, ◌∙◌, subst, inl, inr, arith}
 use mathlib.Core.Bool.{false≢true}
-use Rattle.text.specs.Bytes.{Bytes}
-use Rattle.text.specs.Names.{in_mc}
-use Rattle.record.specs.declared.row.Row.{Row}
 use Rattle.record.specs.declared.row.PlacedRow.{PlacedRow}
 use Rattle.record.specs.declared.refusal.Cause.{Cause}
 use Rattle.record.specs.declared.refusal.Cause.TheVariants.{MustUnderstand, StrayChild, ForeignName}
 use Rattle.record.specs.declared.refusal.Refusal.{Refusal}
 use Rattle.record.specs.declared.refusal.Refusal.TheVariants.{Mismatch}
-use Rattle.record.specs.Refusals.{numbered, place_of}
+use Rattle.record.specs.Refusals.{place_of}
 use Rattle.knowledge.specs.Understood.{Knows}
 use Rattle.card.specs.Cards.{Name}
 use Rattle.items.specs.Items.{items}
-use Rattle.rules.specs.Elements.{Decl, Attr, Tag, Token, tag, text, end, tokens, children, Element, element, around, decl_row, attr_row, tag_rows}
-use Rattle.rules.specs.Scope.{is_must_understand, Scope, named, scope}
-use Rattle.rules.specs.Steps.{is_foreign, is_kept_attr, all_understood, stray, reached, kept}
-use Rattle.rules.specs.Mismatches.{mark, attr_marks, heeds, stray_child, element_marks, marks_of, mismatches}
-use Rattle.rules.specs.Order.{Accepted}
-use Rattle.rules.specs.Lists.{In, Sub, none, skip, same, RisesFrom, placed_rows}
+use Rattle.rules.specs.Elements.{Attr, Tag, Token, tag, text, end, tokens, children, Element, element, around, decl_row, attr_row, tag_rows}
+use Rattle.rules.specs.Scope.{is_must_understand, Scope, named}
+use Rattle.rules.specs.Steps.{is_foreign, is_kept_attr, all_understood, reached, kept}
+use Rattle.rules.specs.Mismatches.{mark, attr_marks, stray_child, element_marks, marks_of, mismatches}
+use Rattle.rules.specs.Lists.{In, Sub, none, skip, same, RisesFrom}
 use Rattle.rules.specs.Laws.{OneCause, MismatchesRise}
-use Rattle.rules.proofs.Members.{map_append, sub_refl, sub_none, sub_append, sub_trans, sub_map, rises_sub, rises_in, in_map}
+use Rattle.rules.proofs.Members.{map_append, sub_refl, sub_none, sub_append, sub_trans, rises_sub, rises_in, in_map}
 use Rattle.rules.proofs.Names.{must-mc}
 use Rattle.rules.proofs.Rows.{rows_of, all_rows, all_rows_lem, place_in, places_rise}
 

@@ -1,5 +1,5 @@
 -- The first of a list of refusals that is put together from trials.
-use Rattle.std.proofs.Common.{◌≡◌, Bool, true, false, cond, List, [], ◌∷◌, ◌++◌, Some, None, Option, refl}
+use Rattle.std.proofs.Common.{◌≡◌, Bool, true, false, cond, List, [], ◌∷◌, ◌++◌, Some, None, refl}
 use Rattle.std.specs.Option.{option_or}
 use Rattle.record.specs.declared.refusal.Refusal.{Refusal}
 use Rattle.rules.specs.Faults.{fault, first}

@@ -1,28 +1,19 @@
 -- The frames of the open elements follow step by step, and what a token keeps follows from them.
-use Rattle.std.proofs.Common.{◌≡◌, ℕ, zero, suc, Bool, true, false, cond, not, ◌&&◌, ◌||◌, List, [], ◌∷◌, ◌++◌, drop, is_some, Some, None, Option, sym, refl, ap, ◌∙◌, ap₂, arith}
+use Rattle.std.proofs.Common.{◌≡◌, ℕ, zero, suc, Bool, true, false, cond, not, ◌&&◌, ◌||◌, List, [], ◌∷◌, drop, is_some, Some, None, Option, sym, refl, ap, ◌∙◌, ap₂, arith}
 use mathlib.Core.Bool.{false≢true}
 use mathlib.Core.List.{tail}
 use Rattle.text.specs.Bytes.{Bytes}
 use Rattle.text.specs.Names.{in_mc, element_named}
 use Rattle.text.specs.declared.names.McElement.{McElement}
 use Rattle.text.specs.declared.names.McElement.TheVariants.{AlternateContent, Choice, Fallback}
-use Rattle.record.specs.declared.row.PlacedRow.{PlacedRow}
-use Rattle.record.specs.declared.refusal.Cause.TheVariants.{StrayChild, ForeignName}
-use Rattle.record.specs.declared.refusal.Refusal.{Refusal}
-use Rattle.record.specs.declared.refusal.Refusal.TheVariants.{Misplaced}
 use Rattle.knowledge.specs.Understood.{Knows}
 use Rattle.card.specs.Cards.{Name}
-use Rattle.rules.specs.declared.state.State.{State}
-use Rattle.rules.specs.declared.state.State.TheVariants.{Kept, Unwrapped, Ignored, Alternate, Branch, Extension}
 use Rattle.rules.specs.Elements.{Tag, Token, tag, text, end, children, Element, element, around}
-use Rattle.rules.specs.Scope.{mc_element, alternate, choice, fallback, is_alternate_content, is_choice, is_fallback, is_branch, Scope, no_scope, is_processed_in, scope_with, is_listed, in_extension, scope, in_alternate_content}
-use Rattle.rules.specs.Steps.{when, is_foreign, is_dispensable, is_unwrapped, is_ignored, is_selected, choice_selected, tag_kept, unwrapped, ignored, selected, unselected, stray, entered, reached, kept, extension_kept, text_kept, kept_of}
-use Rattle.rules.specs.Mismatches.{mark, attr_marks, heeds, stray_child, element_marks, marks_of}
-use Rattle.rules.specs.Faults.{fault, start_name_faults, any_choice, any_fallback, element_faults, tag_faults, end_faults, faults_of, faults}
-use Rattle.rules.specs.States.{Frame, state_by, state_in, is_extension_state, is_alternate_state, is_ignored_state, is_kept_state, keeps_text, keeps_end, heeds_must, entered_by, tag_kept_in, ground, state_at, entered_at, frame_at, frames_around, frames, reached_in, selected_in, opened_by, opened, noted, ended, step, faults_in, kept_in, tag_marks_in, marks_in}
+use Rattle.rules.specs.Scope.{mc_element, alternate, choice, fallback, is_alternate_content, is_choice, is_fallback, is_branch, Scope, is_listed, in_extension, scope, in_alternate_content}
+use Rattle.rules.specs.Steps.{is_dispensable, is_ignored, is_selected, choice_selected, tag_kept, ignored, selected, unselected, stray, entered, reached, extension_kept}
+use Rattle.rules.specs.Faults.{any_choice, any_fallback}
+use Rattle.rules.specs.States.{Frame, state_by, state_in, is_extension_state, is_alternate_state, is_ignored_state, is_kept_state, keeps_text, keeps_end, heeds_must, entered_by, tag_kept_in, ground, state_at, entered_at, frame_at, frames_around, frames, reached_in, selected_in, opened_by, opened, noted, ended, step}
 use Rattle.rules.specs.Laws.{StatesFollow}
-use Rattle.rules.proofs.Members.{left_nil, right_nil, no_fault}
-use Rattle.rules.proofs.Names.{alt_mc, branch-mc, alt_not_branch, name-known}
 use Rattle.rules.proofs.Understood.{out_of_ext}
 
 -- The child that ends, with its elder siblings.

@@ -1,21 +1,19 @@
 -- What a token is refused with, keeps and mismatches follows from the frame of the element around it.
-use Rattle.std.proofs.Common.{◌≡◌, ℕ, zero, Bool, true, false, cond, not, ◌&&◌, ◌||◌, List, [], ◌∷◌, ◌++◌, is_some, sym, refl, ap, ◌∙◌, ap₂, arith}
+use Rattle.std.proofs.Common.{◌≡◌, zero, Bool, true, false, not, ◌&&◌, ◌||◌, List, [], ◌∷◌, ◌++◌, is_some, sym, refl, ap, ◌∙◌, ap₂, arith}
 use mathlib.Core.Bool.{false≢true}
 use mathlib.Core.List.{tail}
-use Rattle.text.specs.Bytes.{Bytes}
 use Rattle.text.specs.Names.{in_mc, element_named}
-use Rattle.record.specs.declared.row.PlacedRow.{PlacedRow}
 use Rattle.record.specs.declared.refusal.Cause.TheVariants.{StrayChild, ForeignName}
 use Rattle.record.specs.declared.refusal.Refusal.{Refusal}
 use Rattle.record.specs.declared.refusal.Refusal.TheVariants.{Misplaced, UnknownName}
 use Rattle.knowledge.specs.Understood.{Knows}
 use Rattle.card.specs.Cards.{Name}
-use Rattle.rules.specs.Elements.{Attr, Tag, Token, tag, text, end, children, Element, element, around}
+use Rattle.rules.specs.Elements.{Tag, Token, tag, text, end, children, Element, element, around}
 use Rattle.rules.specs.Scope.{mc_element, is_alternate_content, is_choice, is_fallback, is_branch, Scope, is_processed_in, is_listed, in_extension, scope, in_alternate_content}
-use Rattle.rules.specs.Steps.{when, is_foreign, is_dispensable, is_unwrapped, is_ignored, tag_kept, unwrapped, ignored, selected, unselected, stray, entered, reached, kept, extension_kept, text_kept, kept_of}
+use Rattle.rules.specs.Steps.{when, is_foreign, is_dispensable, is_unwrapped, is_ignored, tag_kept, unwrapped, ignored, unselected, stray, entered, reached, kept, extension_kept, text_kept, kept_of}
 use Rattle.rules.specs.Mismatches.{mark, attr_marks, heeds, stray_child, element_marks, marks_of}
 use Rattle.rules.specs.Faults.{fault, start_name_faults, any_choice, any_fallback, element_faults, tag_faults, end_faults, faults_of, faults}
-use Rattle.rules.specs.States.{Frame, state_by, state_in, is_extension_state, is_alternate_state, is_ignored_state, is_kept_state, keeps_text, keeps_end, heeds_must, tag_kept_in, state_at, entered_at, frame_at, frames_around, frames, opened, faults_in, kept_in, tag_marks_in, marks_in}
+use Rattle.rules.specs.States.{Frame, state_in, is_alternate_state, is_ignored_state, is_kept_state, keeps_text, keeps_end, heeds_must, tag_kept_in, state_at, entered_at, frame_at, frames, faults_in, kept_in, tag_marks_in, marks_in}
 use Rattle.rules.specs.Laws.{RowsFollowStates}
 use Rattle.rules.proofs.Members.{left_nil, right_nil, no_fault}
 use Rattle.rules.proofs.Names.{alt_mc, branch-mc, alt_not_branch, name-known}

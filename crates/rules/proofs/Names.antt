@@ -1,11 +1,10 @@
 -- What the names of MC say of one another.
-use Rattle.std.proofs.Common.{◌≡◌, Bool, true, false, cond, not, ◌&&◌, ◌||◌, is_some, Some, None, Option, sym, refl, ap, ◌∙◌}
+use Rattle.std.proofs.Common.{◌≡◌, Bool, true, false, cond, ◌||◌, is_some, Some, None, Option, refl}
 use mathlib.Core.Bool.{false≢true}
 use Rattle.text.specs.Names.{in_mc, element_named, attribute_named}
 use Rattle.text.specs.declared.names.McElement.{McElement}
 use Rattle.text.specs.declared.names.McElement.TheVariants.{AlternateContent, Choice, Fallback}
 use Rattle.text.specs.declared.names.McAttribute.{McAttribute}
-use Rattle.text.specs.declared.names.McAttribute.TheVariants.{Ignorable, ProcessContent, MustUnderstand}
 use Rattle.rules.specs.Elements.{Attr, Tag}
 use Rattle.rules.specs.Scope.{mc_element, alternate, choice, fallback, is_alternate_content, is_choice, is_fallback, is_branch, mc_attribute, must, is_must_understand}
 

@@ -1,11 +1,9 @@
 -- Kept starts and ends pair.
-use Rattle.std.proofs.Common.{◌≡◌, ℕ, zero, suc, Bool, true, false, ◌||◌, ◌⊎◌, List, [], ◌∷◌, ◌++◌, map, Some, None, Option, sym, refl, ap, ◌∙◌, inl, inr}
+use Rattle.std.proofs.Common.{◌≡◌, ℕ, suc, Bool, true, false, ◌||◌, ◌⊎◌, List, [], ◌∷◌, ◌++◌, map, Some, Option, refl, ap, ◌∙◌, inl, inr}
 use mathlib.Core.Bool.{false≢true}
 use mathlib.Core.List.{tail}
 use Rattle.text.specs.Bytes.{Bytes}
-use Rattle.record.specs.declared.row.Row.{Row}
 use Rattle.record.specs.declared.row.PlacedRow.{PlacedRow}
-use Rattle.record.specs.declared.row.Kind.{Kind}
 use Rattle.record.specs.declared.row.Kind.TheVariants.{Start, Declaration, Attribute, Text, End}
 use Rattle.record.specs.Rows.{kind_of}
 use Rattle.knowledge.specs.Understood.{Knows}

@@ -1,5 +1,5 @@
 -- Kept rows are rows of the record, in order, and well formed.
-use Rattle.std.proofs.Common.{◌≡◌, ℕ, Bool, true, false, ◌⊎◌, List, [], ◌∷◌, ◌++◌, map, length, sym, refl, ap, ◌∙◌, subst, inl, inr}
+use Rattle.std.proofs.Common.{◌≡◌, Bool, true, false, ◌⊎◌, List, [], ◌∷◌, map, length, sym, subst, inl, inr}
 use Rattle.text.specs.Bytes.{Bytes}
 use Rattle.record.specs.declared.row.Row.{Row}
 use Rattle.record.specs.declared.row.PlacedRow.{PlacedRow}
@@ -9,7 +9,7 @@ use Rattle.rules.specs.Elements.{Decl, Attr, Tag, Token, tag, text, end, placed_
 use Rattle.rules.specs.Steps.{kept_decls, kept_attrs, kept_tag, tag_kept, kept_of, kept_rows}
 use Rattle.rules.specs.Order.{is_well_formed, Accepted}
 use Rattle.rules.specs.Records.{judged, draft}
-use Rattle.rules.specs.Lists.{In, Sub, none, skip, same, RisesFrom, placed_rows}
+use Rattle.rules.specs.Lists.{In, Sub, none, same, placed_rows}
 use Rattle.rules.specs.Laws.{InOrderOf, KeptRowsRise, KeptRowsAreWellFormed}
 use Rattle.rules.proofs.Members.{sub_refl, sub_none, sub_append, sub_left, sub_trans, sub_map, in_sub, in_append, when-one, rises_sub}
 use Rattle.rules.proofs.Rows.{rows_of, all_rows, all_rows_lem, well_formed_lem, place_in, places_rise}

@@ -1,16 +1,12 @@
 -- The laws, of records that are sealed.
-use Rattle.std.proofs.Common.{◌≡◌, ◌⊎◌, List, map, reverse, Some, sym, refl, ap, ◌∙◌, subst, inl, inr}
-use Rattle.text.specs.Bytes.{Bytes}
-use Rattle.record.specs.declared.row.Row.{Row}
-use Rattle.record.specs.declared.row.PlacedRow.{PlacedRow}
-use Rattle.card.specs.Cards.{Name}
+use Rattle.std.proofs.Common.{◌≡◌, ◌⊎◌, List, reverse, Some, sym, subst, inl, inr}
 use Rattle.rules.specs.Elements.{tokens, Element}
 use Rattle.rules.specs.Steps.{kept_rows}
 use Rattle.rules.specs.Lists.{In, open_after}
 use Rattle.rules.specs.Laws.{InOrderOf, StandsOnly, Earlier, SealedRowsRiseAndPair, MoreKnowledgeSealsMore}
 use Rattle.rules.proofs.Rise.{kept_rows_rise}
 use Rattle.rules.proofs.Pairs.{kept_rows_pair}
-use Rattle.rules.proofs.Whole.{Whole, whole}
+use Rattle.rules.proofs.Whole.{whole}
 use Rattle.rules.proofs.Wider.{more_knowledge_more_rows}
 
 pub sealed_rows_rise_and_pair : SealedRowsRiseAndPair

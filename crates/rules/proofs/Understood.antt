@@ -1,32 +1,30 @@
 -- A record without refusal or mismatch keeps, outside extension elements, understood names only.
-use Rattle.std.proofs.Common.{◌≡◌, ℕ, zero, Bool, true, false, cond, not, ◌&&◌, ◌||◌, ◌⊎◌, List, [], ◌∷◌, ◌++◌, map, reverse, Some, None, Ok, Err, Option, Result, sym, refl, ap, ◌∙◌, subst, ap₂, inl, inr, arith}
+use Rattle.std.proofs.Common.{◌≡◌, ℕ, zero, Bool, true, false, ◌&&◌, ◌⊎◌, List, [], ◌∷◌, ◌++◌, reverse, Some, sym, refl, ap, ◌∙◌, subst, inl, inr, arith}
 use mathlib.Core.Bool.{false≢true}
 use mathlib.Core.List.{nil≢cons}
 use Rattle.text.specs.Bytes.{Bytes}
 use Rattle.record.specs.declared.row.Row.{Row}
 use Rattle.record.specs.declared.row.PlacedRow.{PlacedRow}
 use Rattle.record.specs.declared.row.Kind.{Kind}
-use Rattle.record.specs.declared.row.Kind.TheVariants.{Start, Declaration, Attribute, Text, End}
+use Rattle.record.specs.declared.row.Kind.TheVariants.{Declaration, Text, End}
 use Rattle.record.specs.Rows.{kind_of}
 use Rattle.record.specs.declared.refusal.Cause.{Cause}
 use Rattle.record.specs.declared.refusal.Cause.TheVariants.{ForeignName}
-use Rattle.record.specs.declared.refusal.Refusal.{Refusal}
 use Rattle.file.specs.Form.{text_at}
 use Rattle.knowledge.specs.Understood.{Knows}
 use Rattle.card.specs.Cards.{Name}
 use Rattle.items.specs.Items.{is_empty}
-use Rattle.rules.specs.Elements.{Decl, Attr, Tag, Token, tag, text, end, tokens, children, Element, element, around, tag_rows}
+use Rattle.rules.specs.Elements.{Decl, Attr, Tag, Token, tag, text, end, tokens, children, Element, element, around}
 use Rattle.rules.specs.Scope.{Scope, in_extension, scope}
 use Rattle.rules.specs.Steps.{when, is_foreign, is_kept_attr, kept_decls, kept_attrs, kept_tag, tag_kept, kept, extension_kept, kept_of, kept_rows}
 use Rattle.rules.specs.Mismatches.{mark, attr_marks, heeds, element_marks, marks_of, mismatches}
-use Rattle.rules.specs.Records.{Sealed, outcome}
 use Rattle.rules.specs.Lists.{In}
 use Rattle.rules.specs.Laws.{Stands, StandsOnly, has_name, Fine, UnderstoodOnly}
 use Rattle.rules.proofs.Members.{left_nil, right_nil, in_append, in_sub, in_when}
 use Rattle.rules.proofs.Rows.{IsKind, DeclsTrue, AttrsTrue, TokenTrue, AllTrue, all_true}
 use Rattle.rules.proofs.Rise.{tag-part}
 use Rattle.rules.proofs.Once.{stands_only, stands_on}
-use Rattle.rules.proofs.Whole.{Whole, whole}
+use Rattle.rules.proofs.Whole.{whole}
 
 no_mark : (b : Bool) (p : ℕ) (c : Cause) → mark b p c ≡ [] → b ≡ false
 unfolding mark

@@ -1,19 +1,18 @@
 -- A wider knowledge keeps what was kept, unless it selects an earlier branch.
-use Rattle.std.proofs.Common.{◌≡◌, ℕ, zero, Bool, true, false, not, ◌&&◌, ◌||◌, ◌⊎◌, List, [], ◌∷◌, ◌++◌, map, sym, refl, ap, ◌∙◌, subst, inl, inr, arith}
+use Rattle.std.proofs.Common.{◌≡◌, zero, Bool, true, false, not, ◌&&◌, ◌||◌, ◌⊎◌, List, [], ◌∷◌, ◌++◌, sym, refl, ◌∙◌, subst, inl, inr, arith}
 use mathlib.Core.Bool.{false≢true}
 use mathlib.Core.List.{tail}
 use Rattle.std.proofs.lemmas.Bool.{and_parts, or_cases, cases_Bool}
 use Rattle.text.specs.Bytes.{Bytes}
-use Rattle.text.specs.Names.{in_mc, in_xml}
-use Rattle.record.specs.declared.row.Row.{Row}
+use Rattle.text.specs.Names.{in_mc}
 use Rattle.record.specs.declared.row.PlacedRow.{PlacedRow}
 use Rattle.knowledge.specs.Understood.{Knows, is_understood}
 use Rattle.card.specs.Cards.{Name}
-use Rattle.rules.specs.Elements.{Decl, Attr, Tag, Token, tag, text, end, tokens, children, Element, element, around, tag_rows}
-use Rattle.rules.specs.Scope.{is_choice, is_fallback, is_branch, requires_of, items_of, Binding, Scope, is_ignorable_in, is_processed_in, named, bindings_with, is_listed, in_extension, scope, in_alternate_content}
+use Rattle.rules.specs.Elements.{Decl, Attr, Tag, Token, tag, text, end, tokens, children, Element, element, around}
+use Rattle.rules.specs.Scope.{is_branch, requires_of, items_of, Binding, Scope, named, bindings_with, is_listed, in_extension, scope, in_alternate_content}
 use Rattle.rules.specs.Steps.{when, is_foreign, is_dispensable, is_unwrapped, is_ignored, all_understood, is_satisfied, choice_selected, is_selected, is_kept_decl, is_kept_attr, kept_decls, kept_attrs, kept_tag, tag_kept, unwrapped, ignored, selected, unselected, stray, entered, reached, kept, extension_kept, text_kept, kept_of, kept_rows}
 use Rattle.rules.specs.Faults.{place_faults, element_faults, tag_faults, faults_of, faults}
-use Rattle.rules.specs.Lists.{In, Sub, none, skip, same}
+use Rattle.rules.specs.Lists.{In, Sub, none, same}
 use Rattle.rules.specs.Laws.{Stands, Wider, any_selected, Earlier, MoreKnowledgeMoreRows}
 use Rattle.rules.proofs.Members.{left_nil, right_nil, no_fault, sub_refl, sub_none, sub_append, in_append, in_left, in_right, in_sub, in_when, when_in, when_sub}
 use Rattle.rules.proofs.Rise.{tag-part}

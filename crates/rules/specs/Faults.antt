@@ -1,5 +1,5 @@
 -- The refusals 13 to 20 of an element and of an end, in the order in which docs/REFUSALS.md has them tried; the first counts.
-use Rattle.std.specs.Prelude.{ℕ, zero, suc, Bool, true, false, cond, not, ◌&&◌, ◌||◌, List, [], ◌∷◌, ◌++◌, length, is_some, Some, None, Option, nat_le, nat_lt}
+use Rattle.std.specs.Prelude.{ℕ, zero, suc, Bool, true, false, not, ◌&&◌, ◌||◌, List, [], ◌∷◌, ◌++◌, length, is_some, Some, None, Option, nat_le, nat_lt}
 use Rattle.text.specs.Bytes.{Bytes}
 use Rattle.text.specs.Names.{in_mc, in_xml, is_requires, is_inherited, element_named, attribute_named}
 use Rattle.record.specs.declared.refusal.Refusal.{Refusal}
@@ -7,7 +7,7 @@ use Rattle.record.specs.declared.refusal.Refusal.TheVariants.{ScopeFull, BadItem
 use Rattle.knowledge.specs.Understood.{Knows}
 use Rattle.card.specs.Cards.{Name}
 use Rattle.items.specs.Items.{is_empty, items, has_colon, prefix_part, is_pair}
-use Rattle.rules.specs.Elements.{Attr, Tag, Token, tag, text, end, children, Element, element, around}
+use Rattle.rules.specs.Elements.{Attr, Tag, Token, tag, text, end, children, around}
 use Rattle.rules.specs.Scope.{is_choice, is_fallback, is_branch, ignorable_of, process_content_of, must_understand_of, requires_of, Binding, Scope, bound, is_ignorable_in, scope_with, is_listed, in_extension, scope, in_alternate_content}
 use Rattle.rules.specs.Steps.{is_unwrapped}
 

@@ -1,6 +1,5 @@
 -- Where a record does not fit a knowledge: the mismatches, each with its place and cause, in the order of places (docs/RULES.md, rule 10).
 use Rattle.std.specs.Prelude.{ℕ, zero, Bool, true, false, not, ◌&&◌, ◌||◌, List, [], ◌∷◌, ◌++◌}
-use Rattle.text.specs.Bytes.{Bytes}
 use Rattle.record.specs.declared.refusal.Cause.{Cause}
 use Rattle.record.specs.declared.refusal.Cause.TheVariants.{MustUnderstand, StrayChild, ForeignName}
 use Rattle.record.specs.declared.refusal.Refusal.{Refusal}

@@ -1,6 +1,6 @@
 -- What is in scope at an element: bindings, ignorable items and ProcessContent items, newest first, with one search (docs/RULES.md,
 -- rules 1, 3 and 4, and "Lists in scope").
-use Rattle.std.specs.Prelude.{Bool, true, false, cond, not, ◌&&◌, ◌||◌, List, [], ◌∷◌, ◌++◌, map, reverse, is_some, Some, None, Option}
+use Rattle.std.specs.Prelude.{Bool, true, false, cond, ◌&&◌, ◌||◌, List, [], ◌∷◌, ◌++◌, map, reverse, is_some, Some, None, Option}
 use Rattle.std.specs.Option.{option_map}
 use Rattle.std.specs.Str.{bytes_eq}
 use Rattle.text.specs.Bytes.{Bytes}

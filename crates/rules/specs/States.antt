@@ -1,6 +1,5 @@
 -- What has to be known of each open element to judge the next row: by the rules, and step by step from the element around it.
-use Rattle.std.specs.Prelude.{ℕ, zero, Bool, true, false, cond, not, ◌&&◌, ◌||◌, List, [], ◌∷◌, ◌++◌, Some, None, Option}
-use Rattle.text.specs.Bytes.{Bytes}
+use Rattle.std.specs.Prelude.{zero, Bool, true, false, cond, not, ◌&&◌, ◌||◌, List, [], ◌∷◌, ◌++◌, Some, None, Option}
 use Rattle.text.specs.declared.names.McElement.{McElement}
 use Rattle.text.specs.declared.names.McElement.TheVariants.{AlternateContent, Choice, Fallback}
 use Rattle.record.specs.declared.row.PlacedRow.{PlacedRow}
@@ -13,7 +12,7 @@ use Rattle.rules.specs.declared.state.State.{State}
 use Rattle.rules.specs.declared.state.State.TheVariants.{Kept, Unwrapped, Ignored, Alternate, Branch, Extension}
 use Rattle.rules.specs.Elements.{Tag, Token, tag, text, end, children, Element, around, tag_rows}
 use Rattle.rules.specs.Scope.{mc_element, is_choice, is_fallback, is_branch, Scope, no_scope, is_processed_in, scope_with, is_listed, in_extension, scope}
-use Rattle.rules.specs.Steps.{when, is_foreign, is_dispensable, is_satisfied, choice_selected, is_selected, kept_tag, entered, extension_kept}
+use Rattle.rules.specs.Steps.{when, is_foreign, is_dispensable, is_satisfied, choice_selected, kept_tag, entered, extension_kept}
 use Rattle.rules.specs.Mismatches.{mark, attr_marks}
 use Rattle.rules.specs.Faults.{fault, any_choice, any_fallback, tag_faults}
 

@@ -1,11 +1,10 @@
 -- Records with and without a mismatch, and what is kept of them: worked out by hand from the rules.
 use Rattle.std.specs.Prelude.{List, [], ◌∷◌, ◌++◌}
-use Rattle.record.specs.declared.row.Row.{Row}
 use Rattle.record.specs.declared.refusal.Cause.TheVariants.{StrayChild, ForeignName}
 use Rattle.record.specs.declared.refusal.Cause.TheVariants as cause
 use Rattle.record.specs.declared.refusal.Refusal.TheVariants.{UnknownName, Mismatch}
 use Rattle.rules_cases.specs.Case.{Case, start, declare, attribute, text, end, refuses}
-use Rattle.rules_cases.specs.Words.{reading, reading-q, extending, kept, all-kept, none, urn:p, urn:q, urn:s, MC, XML, p, q, s, z, mc, xml, Ignorable, r, W, X, Foo, lang, words, p-and-q, q:W, spread, p:r, p:W, q:X, s:W, alternate, choice, fallback, bind-p, bind-q, bind-s, bind-mc, ignorable, process, must, requires}
+use Rattle.rules_cases.specs.Words.{reading, reading-q, extending, kept, all-kept, none, urn:q, urn:s, MC, XML, p, q, s, z, mc, xml, Ignorable, r, W, X, Foo, lang, words, p-and-q, q:W, spread, p:r, p:W, q:X, s:W, alternate, choice, fallback, bind-p, bind-q, bind-s, bind-mc, ignorable, process, must, requires}
 
 abbrev must_understand : List Case
 must_understand =

@@ -1,10 +1,10 @@
 -- Records that are refused for an element or an end, and their neighbours that are not: worked out by hand from the rules.
-use Rattle.std.specs.Prelude.{ℕ, ◌+◌, List, [], ◌∷◌, ◌++◌, map}
+use Rattle.std.specs.Prelude.{ℕ, List, [], ◌∷◌, ◌++◌, map}
 use Rattle.std.specs.List.{range_with_len}
 use Rattle.record.specs.declared.row.Row.{Row}
 use Rattle.record.specs.declared.refusal.Refusal.TheVariants.{BadRow, OutOfOrder, Forbidden, TooMany, ScopeFull, BadItem, Unbound, NotIgnorable, UnknownName, BadAttribute, Misplaced, XmlAttribute}
 use Rattle.rules_cases.specs.Case.{Case, row, start, declare, attribute, text, end, refuses}
-use Rattle.rules_cases.specs.Words.{copies, x, reading, reading-q, extending, kept, all-kept, none, urn:p, urn:q, urn:s, MC, XML, p, q, s, z, mc, xml, Ignorable, AlternateContent, Fallback, Requires, r, W, X, Foo, base, lang, space, id, words, p-and-q, q-and-z, q:W, q:W-and-s:W, z:W, xml:W, mc:W, star:W, q:star, q:starred, two-colons, only-colon, no_local, no-prefix, blanks, many-q, too-many-q, many-q:W, too-many-q:W, p:r, p:W, q:X, s:W, alternate, choice, fallback, bind-p, bind-q, bind-s, bind-mc, ignorable, process, must, requires}
+use Rattle.rules_cases.specs.Words.{copies, x, reading, reading-q, extending, kept, all-kept, none, urn:p, urn:q, urn:s, MC, XML, p, q, s, z, mc, xml, Ignorable, Fallback, Requires, W, X, Foo, base, lang, space, id, words, q-and-z, q:W, q:W-and-s:W, z:W, xml:W, mc:W, star:W, q:star, q:starred, two-colons, only-colon, no_local, no-prefix, blanks, many-q, too-many-q, many-q:W, too-many-q:W, p:r, p:W, q:X, alternate, choice, fallback, bind-p, bind-q, bind-s, bind-mc, ignorable, process, must, requires}
 
 abbrev declarations : ℕ → List Row
 declarations n = map (λ (i : ℕ). declare (x i) urn:p) (range_with_len 0 n)

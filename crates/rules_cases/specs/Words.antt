@@ -1,14 +1,13 @@
 -- The texts of the worked cases, each under the name by which its number is written. The namespace urn:p is understood; urn:q and
 -- urn:s are not.
-use Rattle.std.specs.Prelude.{ℕ, zero, suc, ◌+◌, List, [], ◌∷◌, ◌++◌, map, length, codes, Result}
+use Rattle.std.specs.Prelude.{ℕ, zero, suc, ◌+◌, List, [], ◌∷◌, ◌++◌, map, codes, Result}
 use Rattle.std.specs.List.{range_with_len}
 use Rattle.text.specs.Bytes.{Bytes}
 use Rattle.text.specs.Names.{mc_namespace, xml_namespace}
 use Rattle.record.specs.declared.row.Row.{Row}
 use Rattle.record.specs.declared.refusal.Refusal.{Refusal}
-use Rattle.card.specs.Cards.{Name}
 use Rattle.rules.specs.Records.{Sealed}
-use Rattle.rules_cases.specs.Case.{Case, start, declare, attribute, end, keeps}
+use Rattle.rules_cases.specs.Case.{Case, start, declare, attribute, keeps}
 
 -- so many copies, one behind the other
 abbrev pub copies : {A : Type 0} → ℕ → List A → List A

@@ -1,12 +1,12 @@
 -- A list of rows of which the first `n` are sealed and the rest are a draft: both sheets are one.
 use Rattle.std.proofs.Common.{◌≡◌, ℕ, ◌+◌, ◌-◌, ◌≤◌, Bool, true, false, cond, ◌&&◌, T, eqb, leb, [], ◌∷◌, ◌++◌, length, take, drop, Some, None, Ok, Err, Option, Result, sym, refl, ap, ◌∙◌, subst, arith}
-use Rattle.std.proofs.lemmas.List.{take-append-drop, take_all, drop_all, take-take, length-take-le, length-drop, length_push, drop-append-le, take-append-le}
+use Rattle.std.proofs.lemmas.List.{take-append-drop, take_all, drop_all, length-take-le, length-drop, length_push, drop-append-le, take-append-le}
 use Rattle.std.proofs.lemmas.List.Sums.{fold_push}
 use Rattle.record.specs.declared.row.PlacedRow.{PlacedRow}
 use Rattle.record.specs.declared.refusal.Refusal.{Refusal}
 use Rattle.record.specs.declared.refusal.Refusal.TheVariants.{NotForSheet}
 use Rattle.sheet.specs.declared.tail.Tail.{Tail}
-use Rattle.sheet.specs.Rows.{Rows, well_formed, open_behind, open_in, closes, all_close, pairs, last_place, cost_of, spent}
+use Rattle.sheet.specs.Rows.{Rows, well_formed, open_in, closes, all_close, pairs, last_place, cost_of, spent}
 use Rattle.sheet.specs.Sheets.{Model, model, follows, has_room, refusal, answer, unless, put_refusal, put_answer, after_put, open_refusal, seal_answer, after_seal, after_drop}
 use Rattle.sheet.specs.Tails.{tail_of, tail_refusal, judged, tail_behind, Drafted}
 use Rattle.sheet.proofs.Pairs.{close_append, pairs_append, open_push, open_le, spent_append}

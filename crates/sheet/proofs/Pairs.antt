@@ -1,8 +1,8 @@
 -- Starts and ends that pair, and what rows cost, in longer lists.
-use Rattle.std.proofs.Common.{◌≡◌, ℕ, ◌+◌, ◌≤◌, Bool, true, false, ◌&&◌, T, eqb, List, [], ◌∷◌, ◌++◌, length, fold, sym, refl, ap, ◌∙◌, arith}
+use Rattle.std.proofs.Common.{◌≡◌, ℕ, ◌+◌, ◌≤◌, true, false, ◌&&◌, T, List, [], ◌∷◌, ◌++◌, length, fold, refl, ap, ◌∙◌, arith}
 use Rattle.std.proofs.lemmas.List.Sums.{fold_push}
 use Rattle.record.specs.declared.row.PlacedRow.{PlacedRow}
-use Rattle.sheet.specs.Rows.{Rows, open_behind, open_in, closes, all_close, pairs, last_place, cost_of, spent}
+use Rattle.sheet.specs.Rows.{Rows, open_behind, open_in, closes, all_close, pairs, spent}
 
 pub folded_append : {A B : Type 0} (f : B → A → B) (a : B) (xs ys : List A) → fold f a (xs ++ ys) ≡ fold f (fold f a xs) ys
 folded_append f a [] ys = refl

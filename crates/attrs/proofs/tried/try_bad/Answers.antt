@@ -1,4 +1,4 @@
-use Rattle.std.proofs.Common.{true, not, ◌&&◌, map, is_some, sym, refl, ap, ◌∙◌}
+use Rattle.std.proofs.Common.{map, sym, refl, ap, ◌∙◌}
 use Rattle.std.specs.Option.{option_map}
 use Rattle.record.specs.declared.refusal.Refusal.TheVariants.{BadAttribute}
 use Rattle.file.specs.Texts.{texts}

@@ -1,4 +1,4 @@
-use Rattle.std.proofs.Common.{sym, refl, ap, ◌∙◌, subst}
+use Rattle.std.proofs.Common.{sym, refl, subst}
 use Rattle.file.specs.Texts.{texts}
 use Rattle.order.specs.declared.progress.Progress.{Progress}
 use Rattle.order.specs.Following.{Follows}

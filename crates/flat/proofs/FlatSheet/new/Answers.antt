@@ -1,7 +1,5 @@
-use Rattle.std.proofs.Common.{[], sym, arith}
-use Rattle.roll.specs.Rolls.{items}
+use Rattle.std.proofs.Common.{arith}
 use Rattle.sheet.specs.Rows.{open_in, pairs}
-use Rattle.sheet.specs.Tails.{tail_of, Drafted}
 use Rattle.flat.proofs.FlatSheet.new.Goals as goal
 
 pub invariant_of-result : goal.invariant_of-result

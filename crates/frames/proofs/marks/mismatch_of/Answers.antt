@@ -1,4 +1,4 @@
-use Rattle.std.proofs.Common.{◌≡◌, sym, ap}
+use Rattle.std.proofs.Common.{sym, ap}
 use Rattle.file.specs.Texts.{texts}
 use Rattle.scope.specs.Entries.{bindings_of, ignorables_of}
 use Rattle.judge.specs.Tags.{tag_of}

@@ -1,4 +1,4 @@
-use Rattle.std.proofs.Common.{◌≡◌, cond, Option, ap, ◌∙◌}
+use Rattle.std.proofs.Common.{cond, Option, ap, ◌∙◌}
 use Rattle.text.specs.declared.names.McElement.{McElement}
 use Rattle.file.specs.Texts.{texts}
 use Rattle.rules.specs.States.{is_alternate_state}

@@ -1,4 +1,4 @@
-use Rattle.std.proofs.Common.{◌≡◌, ap}
+use Rattle.std.proofs.Common.{ap}
 use Rattle.file.specs.Texts.{texts}
 use Rattle.scope.specs.Entries.{ignorables_of}
 use Rattle.judge.specs.Tags.{tag_of}

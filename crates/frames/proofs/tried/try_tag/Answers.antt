@@ -1,4 +1,4 @@
-use Rattle.std.proofs.Common.{◌≡◌, refl, ap, ◌∙◌, rules}
+use Rattle.std.proofs.Common.{refl, ap, ◌∙◌, rules}
 use Rattle.file.specs.Texts.{texts}
 use Rattle.rules.specs.Scope.{is_listed}
 use Rattle.rules.specs.States.{is_extension_state, is_alternate_state}

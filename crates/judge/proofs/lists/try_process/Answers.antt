@@ -1,4 +1,4 @@
-use Rattle.std.proofs.Common.{sym, refl, ap, ◌∙◌, rules}
+use Rattle.std.proofs.Common.{rules}
 use Rattle.rules.specs.Elements.{attr_of}
 use Rattle.rules.specs.Scope.{is_process_content, items_of, named_pairs}
 use Rattle.rules.specs.Faults.{process_faults}

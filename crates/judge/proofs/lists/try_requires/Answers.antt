@@ -1,4 +1,4 @@
-use Rattle.std.proofs.Common.{sym, refl, ap, ◌∙◌, rules}
+use Rattle.std.proofs.Common.{rules}
 use Rattle.rules.specs.Elements.{attr_of}
 use Rattle.rules.specs.Scope.{is_required}
 use Rattle.rules.specs.Faults.{requires_faults, no_items, fault}

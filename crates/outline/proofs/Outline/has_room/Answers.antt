@@ -1,4 +1,4 @@
-use Rattle.std.proofs.Common.{sym, ◌∙◌, arith}
+use Rattle.std.proofs.Common.{arith}
 use Rattle.roll.proofs.Fits.{items_fit}
 use Rattle.outline.proofs.Outline.has_room.Goals as goal
 

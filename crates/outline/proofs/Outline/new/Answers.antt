@@ -1,4 +1,4 @@
-use Rattle.std.proofs.Common.{◌≡◌, ◌^◌, ◌<◌, [], length, sym, ap, ◌∙◌, arith, rules}
+use Rattle.std.proofs.Common.{◌^◌, ◌<◌, rules}
 use Rattle.roll.specs.Rolls.{items, slot_count}
 use Rattle.outline.specs.Entries.{rows_of}
 use Rattle.outline.proofs.Keeps.{new_all}

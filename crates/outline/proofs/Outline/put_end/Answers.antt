@@ -1,7 +1,7 @@
 use Rattle.std.proofs.Common.{◌≡◌, ◌-◌, true, length, set, sym, refl, ap, ◌∙◌, arith}
 use Rattle.roll.specs.Rolls.{items}
 use Rattle.roll.proofs.Fits.{items_fit}
-use Rattle.outline.specs.Entries.{rows_of, closed_by}
+use Rattle.outline.specs.Entries.{rows_of}
 use Rattle.outline.proofs.Nths.{nth_lt}
 use Rattle.outline.proofs.Keeps.{all_of, few-rows, opened, top-some, top_entry, end-rows, end_all}
 use Rattle.outline.proofs.Outline.put_end.Goals as goal

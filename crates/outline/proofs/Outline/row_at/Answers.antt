@@ -1,4 +1,4 @@
-use Rattle.std.proofs.Common.{◌≡◌, ◌-◌, ltb, sym, ap, ◌∙◌}
+use Rattle.std.proofs.Common.{◌-◌, ltb, ap, ◌∙◌}
 use Rattle.std.specs.List.{slice_get}
 use Rattle.outline.specs.Entries.{rows_of}
 use Rattle.outline.specs.Found.{same_answer, found_at, number_at}

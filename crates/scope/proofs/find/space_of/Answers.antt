@@ -1,8 +1,6 @@
-use Rattle.std.proofs.Common.{◌≡◌, sym, refl, ap, ◌∙◌}
+use Rattle.std.proofs.Common.{sym, ap, ◌∙◌}
 use Rattle.std.specs.Option.{option_map}
 use Rattle.std.specs.Str.{bytes_eq}
-use Rattle.text.specs.Bytes.{Bytes}
-use Rattle.text.specs.Names.{is_xml_prefix}
 use Rattle.file.specs.Texts.{texts}
 use Rattle.rules.specs.Scope.{Binding, bound}
 use Rattle.scope.specs.Entries.{binding_of, bindings_of}

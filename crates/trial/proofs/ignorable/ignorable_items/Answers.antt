@@ -1,4 +1,4 @@
-use Rattle.std.proofs.Common.{suc, length, refl, rules}
+use Rattle.std.proofs.Common.{length, refl, rules}
 use Rattle.file.specs.Texts.{texts}
 use Rattle.rules.specs.Scope.{bound, named}
 use Rattle.rules.specs.Faults.{ignorable_item, ignorable_items}

@@ -1,6 +1,4 @@
 use Rattle.std.proofs.Common.{refl, rules}
-use Rattle.items.specs.Items.{items}
-use Rattle.items.specs.Unread.{unread}
 use Rattle.file.specs.Texts.{texts}
 use Rattle.rules.specs.Faults.{prefix_item, prefix_items}
 use Rattle.scope.specs.Entries.{bindings_of}

@@ -1,4 +1,4 @@
-use Rattle.std.proofs.Common.{◌≡◌, ◌<◌, ◌≢◌, length, arith, get_or-set_other, get_or-set_same, below_more}
+use Rattle.std.proofs.Common.{◌<◌, ◌≢◌, length, arith, get_or-set_other, get_or-set_same, below_more}
 use Rattle.file.specs.Texts.{texts}
 use Rattle.file.proofs.Sound.{few_texts}
 use Rattle.understood.proofs.Knowings.{knowing_all}

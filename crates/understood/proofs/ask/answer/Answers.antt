@@ -1,4 +1,4 @@
-use Rattle.std.proofs.Common.{◌≡◌, List, [], ◌∷◌, length, sym, refl, ap, ◌∙◌, arith}
+use Rattle.std.proofs.Common.{◌≡◌, [], ◌∷◌, length, sym, refl, ap, ◌∙◌, arith}
 use Rattle.text.specs.Bytes.{Bytes}
 use Rattle.knowledge.specs.Understood.{is_understood}
 use Rattle.std.proofs.lemmas.Bool.{eqb-true}

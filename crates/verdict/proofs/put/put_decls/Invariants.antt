@@ -1,4 +1,4 @@
-use Rattle.std.proofs.Common.{◌≡◌, map, drop}
+use Rattle.std.proofs.Common.{map, drop}
 use Rattle.file.specs.Texts.{texts}
 use Rattle.knowledge.specs.Understood.{Knows}
 use Rattle.rules.specs.Elements.{decl_of}

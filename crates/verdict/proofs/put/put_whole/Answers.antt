@@ -1,4 +1,3 @@
-use Rattle.std.proofs.Common.{◌≡◌, sym, ap, ◌∙◌}
 use Rattle.std.proofs.lemmas.Result.{err_from_is_err_and}
 use Rattle.rules.specs.Elements.{tag_rows}
 use Rattle.verdict.proofs.Puts.{one-row, then-more, then-none, decl_rows, attr_rows}

@@ -1,9 +1,6 @@
-use Rattle.std.proofs.Common.{◌≡◌, List, sym, ap, ◌∙◌, rules}
-use Rattle.text.specs.Bytes.{Bytes}
+use Rattle.std.proofs.Common.{rules}
 use Rattle.file.specs.Texts.{texts}
-use Rattle.items.specs.Items.{items}
-use Rattle.items.specs.Unread.{unread}
-use Rattle.rules.specs.Scope.{bound, named}
+use Rattle.rules.specs.Scope.{named}
 use Rattle.rules.specs.Steps.{all_understood}
 use Rattle.scope.specs.Entries.{bindings_of}
 use Rattle.verdict.proofs.Items.{item_turn}

@@ -1,4 +1,4 @@
-use Rattle.std.proofs.Common.{◌≡◌, sym, rules}
+use Rattle.std.proofs.Common.{rules}
 use Rattle.file.specs.Texts.{texts}
 use Rattle.rules.specs.Scope.{cons_some}
 use Rattle.rules.specs.Steps.{all_understood}

@@ -1,6 +1,4 @@
-use Rattle.std.proofs.Common.{◌≡◌, [], sym, ap, ◌∙◌}
 use Rattle.roll.specs.Rolls.{items, slot_count}
-use Rattle.sheet.specs.Tails.{tail_of}
 use Rattle.sheet.proofs.Drafts.{drafted-drop, dropped}
 use Rattle.flat.specs.Flats.{flat_cost}
 use Rattle.flat.proofs.calls.FlatSheetSheet.drop_draft.Goals as goal

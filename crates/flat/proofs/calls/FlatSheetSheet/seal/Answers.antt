@@ -1,4 +1,4 @@
-use Rattle.std.proofs.Common.{◌≡◌, ◌-◌, length, sym, ap, ◌∙◌, arith, eqb-true}
+use Rattle.std.proofs.Common.{◌≡◌, ◌-◌, sym, ap, ◌∙◌, eqb-true}
 use Rattle.roll.specs.Rolls.{items, slot_count}
 use Rattle.sheet.proofs.Drafts.{drafted_seal, seal_accepted, seal_refused}
 use Rattle.flat.specs.Flats.{flat_cost}

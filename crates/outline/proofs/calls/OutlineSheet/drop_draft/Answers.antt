@@ -1,4 +1,4 @@
-use Rattle.std.proofs.Common.{◌≡◌, sym, ap, ◌∙◌}
+use Rattle.std.proofs.Common.{ap, ◌∙◌}
 use Rattle.roll.specs.Rolls.{items, slot_count}
 use Rattle.sheet.proofs.Drafts.{dropped}
 use Rattle.outline.specs.Entries.{outline_cost, rows_of}

@@ -1,8 +1,8 @@
-use Rattle.std.proofs.Common.{◌≡◌, true, false, eqb, sym, ap, ◌∙◌, arith, eq-eqb, leb-true}
+use Rattle.std.proofs.Common.{◌≡◌, false, sym, ap, ◌∙◌, arith, eq-eqb, leb-true}
 use Rattle.std.proofs.lemmas.Result.{err_from_is_err_and}
 use Rattle.std.proofs.lemmas.Bool.{ne_eqb}
 use Rattle.roll.specs.Rolls.{items, slot_count}
-use Rattle.sheet.specs.Rows.{is_end, cost_of, spent}
+use Rattle.sheet.specs.Rows.{is_end, cost_of}
 use Rattle.sheet.specs.Tails.{judged}
 use Rattle.sheet.proofs.Drafts.{cut, put-accepted, put_refused, accepted-room}
 use Rattle.outline.specs.Entries.{outline_cost, rows_of}

@@ -1,7 +1,5 @@
-use Rattle.std.proofs.Common.{◌≡◌, is_some, sym, refl, ap, ◌∙◌}
+use Rattle.std.proofs.Common.{ap, ◌∙◌}
 use Rattle.std.proofs.lemmas.Result.{err_from_is_err_and}
-use Rattle.file.specs.Texts.{texts}
-use Rattle.frames.specs.Lists.{extension_list}
 use Rattle.calls.specs.declared.answer.Answer.TheVariants.{Refused}
 use Rattle.calls.specs.Calls.{added}
 use Rattle.reader.proofs.Calls.{some_of, finish-closed, finish-spoilt, when-finish, finish_early, at-end, finish-marked, finish_unsealed, finish-sealed}

@@ -1,4 +1,4 @@
-use Rattle.std.proofs.Common.{arith, rules}
+use Rattle.std.proofs.Common.{rules}
 use Rattle.sheet.specs.Tails.{tail_behind}
 use Rattle.sheet.proofs.tail.Tail.behind.Goals as goal
 
