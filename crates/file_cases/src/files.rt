@@ -111,10 +111,10 @@ fn texts_and_rows_are_read_back(rt: HostRuntime) -> Result<(), Fail> {
     };
     let texts = file.texts();
     assert!(rt; texts.count() == 3);
-    assert!(rt; texts.at(0) == b"");
-    assert!(rt; texts.at(1) == b"Test");
-    assert!(rt; texts.at(2) == b"low");
-    assert!(rt; texts.at(3) == b"");
+    assert!(rt; texts.at(0) == b"".as_slice());
+    assert!(rt; texts.at(1) == b"Test".as_slice());
+    assert!(rt; texts.at(2) == b"low".as_slice());
+    assert!(rt; texts.at(3) == b"".as_slice());
     assert!(rt; texts.get(2).is_some());
     assert!(rt; texts.get(3).is_none());
     assert!(rt; file.row_count() == 2);

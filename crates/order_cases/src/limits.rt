@@ -1,5 +1,6 @@
 use crate::made::{A, END, START, row, tried};
 use record::row::Row;
+use std::process::Abort;
 use std::test::*;
 
 // A start, then so many rows of a kind, each with a letter of its own.
@@ -24,7 +25,7 @@ fn repeated(rt: &HostRuntime, again: Row, count: usize) -> Result<Vec<Row>, Fail
 
 // One row more.
 fn tried_with(
-    rt: &HostRuntime,
+    rt: &(impl Abort + AllocGlobal),
     mut rows: Vec<Row>,
     last: Row,
     expected: (u32, u32),

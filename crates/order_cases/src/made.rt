@@ -3,6 +3,7 @@ use file::texts::Texts;
 use order::progress::Progress;
 use record::row::Row;
 use std::alloc::{AllocError, Global};
+use std::process::Abort;
 use std::test::*;
 
 // Text 1 is `xml`, the 40 behind it a letter each; 42 is the first number that names no text.
@@ -68,11 +69,15 @@ fn answer(lent: Texts<'_>, rows: &[Row]) -> (u32, u32) {
     (0, progress.place())
 }
 
-pub(crate) fn tried(rt: &HostRuntime, rows: &[Row], expected: (u32, u32)) -> Result<(), Fail> {
+pub(crate) fn tried(
+    rt: &(impl Abort + AllocGlobal),
+    rows: &[Row],
+    expected: (u32, u32),
+) -> Result<(), Fail> {
     let bytes = file(rt.alloc())?;
     match File::check(bytes.as_slice()) {
         Ok(file) => {
-            assert_eq!(answer(file.texts(), rows), expected);
+            assert_eq!(rt; answer(file.texts(), rows), expected);
             Ok(())
         },
         Err(_) => Err(Fail::new("the texts are refused")),

@@ -2,7 +2,7 @@ use card::extensions::Extensions;
 use course::Course;
 use file::texts::Texts;
 
-mod calls;
+mod turns;
 
 // What an open record is read by: its texts, and an extension list.
 #[derive(Clone, Copy)]
