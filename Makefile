@@ -7,10 +7,11 @@ example: target/bin/tusnagol
 	target/bin/tusnagol inspect examples/bench.record examples/office.card
 
 # The program is built only once it and all below it are proved; the first time takes a few minutes.
-target/bin/tusnagol: crates.txt $(wildcard crates/*/src/*.rt)
+target/bin/tusnagol: crates.txt $(wildcard crates/*/src/*.rt crates/*/src/*/*.rt)
 	@echo 'proving and building tusnagol ..'
-	@mkdir -p target
-	@rt check tusnagol > target/build.log 2>&1 || { tail -n 20 target/build.log; exit 1; }
+	@mkdir -p target/bin
+	@cd crates/tusnagol && rt run < /dev/null > ../../target/build.log 2>&1 || { tail -n 20 ../../target/build.log; exit 1; }
+	@cp crates/tusnagol/out/tusnagol $@
 
 test:
 	bash .ci/run

@@ -10,9 +10,8 @@ unsafe extern "C" {
 }
 
 const ROWS: u32 = 2048;
-// Short runs, so that the best of them is one with nothing else on the core.
-const ROUNDS: u32 = 100;
-const REPEATS: usize = 300;
+const ROUNDS: u32 = 2000;
+const REPEATS: usize = 15;
 
 #[derive(Clone, Copy)]
 struct Row {

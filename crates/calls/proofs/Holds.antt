@@ -6,7 +6,7 @@ use Rattle.record.specs.declared.row.Row.{Row}
 use Rattle.record.specs.declared.refusal.Refusal.{Refusal}
 use Rattle.record.specs.declared.refusal.Refusal.TheVariants.{TooShort, OutsideLimits, WrongLength, MisplacedText, RepeatedText}
 use Rattle.record.specs.Refusals.{numbered}
-use Rattle.file.specs.Form.{Contents, text_count, row_count, byte_count, within_limits, size, pair_table, row_table, rows_of, text_bytes, texts_of, pair_count, first_from, misplaced, repeated, refuse, refuse_at, with_rows as readRows, read_texts, opened}
+use Rattle.file.specs.Form.{Contents, text_count, row_count, byte_count, within_limits, size, pair_table, row_table, rows_of, text_bytes, texts_of, pair_count, first_from, misplaced, repeated, refuse, refuse_at, with_rows as read_rows, read_texts, opened}
 use Rattle.knowledge.specs.Understood.{Knows}
 use Rattle.card.specs.Cards.{Name}
 use Rattle.sheet.specs.Sheets.{Model, model, after_drop}
@@ -77,7 +77,7 @@ low_at : {X : Type 0} (o : Option ℕ) (f : ℕ → Refusal) (rest : Result X Re
 low_at None f rest h k = k
 low_at (Some n) f rest h k = h n
 
-low_rows : (rows : List Row) (c : Result (List Bytes) Refusal) → Low c → Low (readRows rows c)
+low_rows : (rows : List Row) (c : Result (List Bytes) Refusal) → Low c → Low (read_rows rows c)
 low_rows rows (Ok x) h = tt
 low_rows rows (Err e) h = h
 
@@ -91,7 +91,7 @@ texts_low pairs bytes =
 opened_low : (bytes : Bytes) → Low (opened bytes)
 unfolding opened
 opened_low bytes =
-    let read : Result Contents Refusal = readRows (rows_of (row_table bytes)) (read_texts (pair_table bytes) (text_bytes bytes)) in
+    let read : Result Contents Refusal = read_rows (rows_of (row_table bytes)) (read_texts (pair_table bytes) (text_bytes bytes)) in
     let long : Bool = not (eqb (length bytes) (size (text_count bytes) (row_count bytes) (byte_count bytes))) in
     let wide : Bool = not (within_limits (text_count bytes) (row_count bytes) (byte_count bytes)) in
     low_test (ltb (length bytes) 12) TooShort (refuse wide OutsideLimits (refuse long WrongLength read)) (omega arith)

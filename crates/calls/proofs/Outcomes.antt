@@ -11,7 +11,7 @@ use Rattle.record.specs.declared.refusal.Refusal.TheVariants.{OutOfOrder}
 use Rattle.knowledge.specs.Understood.{Knows}
 use Rattle.card.specs.Cards.{Name}
 use Rattle.sheet.specs.Rows.{last_place, open_in, spent}
-use Rattle.sheet.specs.Sheets.{Model, follows, has_room, refusal as putRefused, answer, unless, put_refusal, put_answer, after_put, then_rows, all_answer, after_drop}
+use Rattle.sheet.specs.Sheets.{Model, follows, has_room, refusal as put_refused, answer, unless, put_refusal, put_answer, after_put, then_rows, all_answer, after_drop}
 use Rattle.sheet.proofs.Pairs.{spent_append}
 use Rattle.rules.specs.Elements.{Token, tokens}
 use Rattle.rules.specs.Steps.{kept_of, kept_rows}
@@ -44,7 +44,7 @@ put-fits : (m : Model) (x : PlacedRow) → follows (last_place m.draft) (open_in
     → (put_answer m x ≡ Ok tt) × (after_put m x ≡ behind m (x ∷ []))
 unfolding put_answer after_put put_refusal
 put-fits m x f r =
-    let e : putRefused (follows (last_place m.draft) (open_in m.draft) x) (has_room m x) x.place ≡ None = ap₂ (λ a b. putRefused a b x.place) f r in
+    let e : put_refused (follows (last_place m.draft) (open_in m.draft) x) (has_room m x) x.place ≡ None = ap₂ (λ a b. put_refused a b x.place) f r in
     (ap (λ o. answer o tt) e, ap (λ o. unless o (behind m (x ∷ [])) m) e)
 
 all_put : (m : Model) (xs : List PlacedRow) → FitIn m xs → Roomy m xs → all_answer m xs ≡ Ok tt

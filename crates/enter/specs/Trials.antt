@@ -20,8 +20,8 @@ list_faults out t =
 
 -- by what is in scope at the element, and whether it is unwrapped
 unfoldable pub rest_faults : Bool → Scope → Bool → Bool → Tag → List Refusal
-rest_faults unwrapped at inside behindFallback t =
-    place_faults inside behindFallback (is_ignorable_in at.ignorables t.namespace) t
+rest_faults unwrapped at inside behind_fallback t =
+    place_faults inside behind_fallback (is_ignorable_in at.ignorables t.namespace) t
     ++ attr_faults (in_mc t.namespace) at.ignorables t
     ++ choice_faults (is_choice t) at.bindings t
     ++ xml_faults unwrapped t.attrs

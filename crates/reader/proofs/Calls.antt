@@ -70,7 +70,7 @@ module _ (r : Reader) (shut : is_some r.open ≡ false) (m : Model) where
   begin-opens idle h s knows c stands =
       record {
         answered = refl;
-        reads = record { source = s; is_open = refl; unspoilt = refl; of-texts = refl; of_list = refl; stands = stands };
+        reads = record { source = s; is_open = refl; unspoilt = refl; of_texts = refl; of_list = refl; stands = stands };
         sheet = refl;
       }
   begin-opens (active b) h s knows c stands = absurd (open_some r.open h.source shut h.is_open)
@@ -113,10 +113,10 @@ module _ (r : Reader) (s : Source) (is : r.open ≡ Some s) (sound : r.spoilt �
       → ((knows : Knows) (rows : List Row) → Stands (texts s.texts) knows (extension_list s.extensions) rows r.course → P (active (begun (of knows) rows)))
       → (reading : Reading) → Holds r reading → P reading
   when-active P f idle h = absurd (none-some s (sym h ∙ is))
-  when-active P f (spoilt b) h = absurd (false≢true (sym sound ∙ h.is-spoilt))
+  when-active P f (spoilt b) h = absurd (false≢true (sym sound ∙ h.is_spoilt))
   when-active P f (active b) h =
       let same : h.source ≡ s = some_same h.source s (sym h.is_open ∙ is) in
-      let t : texts s.texts ≡ b.taken.texts = ap (λ (x : Source). texts x.texts) (sym same) ∙ h.of-texts in
+      let t : texts s.texts ≡ b.taken.texts = ap (λ (x : Source). texts x.texts) (sym same) ∙ h.of_texts in
       let l : extension_list s.extensions ≡ b.taken.extensions = ap (λ (x : Source). extension_list x.extensions) (sym same) ∙ h.of_list in
       subst (λ z. P (active (begun (taken z b.taken.knows b.taken.extensions) b.rows))) t
       (subst (λ z. P (active (begun (taken (texts s.texts) b.taken.knows z) b.rows))) l
@@ -142,7 +142,7 @@ module _ (r : Reader) (s : Source) (is : r.open ≡ Some s) (sound : r.spoilt �
 
     still : (c : Course) (more : List Row) (x : Option Source) (y : Bool) → x ≡ Some s → y ≡ false
         → Stands (texts s.texts) knows (extension_list s.extensions) more c → Active (record { «open» = x; spoilt = y; course = c }) (begun (of knows) more)
-    still c more x y e f stands = record { source = s; is_open = e; unspoilt = f; of-texts = refl; of_list = refl; stands = stands }
+    still c more x y e f stands = record { source = s; is_open = e; unspoilt = f; of_texts = refl; of_list = refl; stands = stands }
 
     -- a row that may not come next
     pub row-refused : (row : Row) (m : Model) (e : Refusal) → Stands (texts s.texts) knows (extension_list s.extensions) rows r.course
@@ -184,7 +184,7 @@ module _ (r : Reader) (s : Source) (is : r.open ≡ Some s) (sound : r.spoilt �
           reached (λ (z : Out). Does z (record { «open» = x; spoilt = true; course = c }) m'' (Refused q))
           (subst (λ (z : Result (Unit {0}) Refusal). Does (row_judged z row b m') (record { «open» = x; spoilt = true; course = c }) m'' (Refused q)) (sym bad)
           (subst (λ (z : Bool). Does (handed_back z q b m') (record { «open» = x; spoilt = true; course = c }) m'' (Refused q)) (sym o)
-          (record { answered = refl; reads = record { source = s; is_open = e; is-spoilt = refl }; sheet = dropped })))
+          (record { answered = refl; reads = record { source = s; is_open = e; is_spoilt = refl }; sheet = dropped })))
 
     -- Finish.
 

@@ -14,7 +14,7 @@ pub record Active (r : Reader) (b : Begun) : Type 0 where
   pub source : Source
   pub is_open : r.open ≡ Some source
   pub unspoilt : r.spoilt ≡ false
-  pub of-texts : texts source.texts ≡ b.taken.texts
+  pub of_texts : texts source.texts ≡ b.taken.texts
   pub of_list : extension_list source.extensions ≡ b.taken.extensions
   pub stands : Stands b.taken.texts b.taken.knows b.taken.extensions b.rows r.course
 
@@ -22,7 +22,7 @@ pub record Active (r : Reader) (b : Begun) : Type 0 where
 pub record Spoiled (r : Reader) : Type 0 where
   pub source : Source
   pub is_open : r.open ≡ Some source
-  pub is-spoilt : r.spoilt ≡ true
+  pub is_spoilt : r.spoilt ≡ true
 
 abbrev pub Holds : Reader → Reading → Type 0
 Holds r idle = r.open ≡ None

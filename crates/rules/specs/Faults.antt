@@ -105,9 +105,9 @@ attr_name_faults (x ∷ xs) =
 -- Which children AlternateContent has: a branch stands directly in one and behind no Fallback; another child of it is in an
 -- ignorable namespace.
 unfoldable pub place_faults : Bool → Bool → Bool → Tag → List Refusal
-place_faults inside behindFallback ignorable t =
+place_faults inside behind_fallback ignorable t =
     fault (is_branch t && not inside) (Misplaced t.placed.place)
-    ++ fault (is_branch t && behindFallback) (Misplaced t.placed.place)
+    ++ fault (is_branch t && behind_fallback) (Misplaced t.placed.place)
     ++ fault (inside && not (is_branch t) && not ignorable) (Misplaced t.placed.place)
 
 unfoldable pub any_choice : List Tag → Bool
@@ -149,7 +149,7 @@ xml_faults unwrapped (x ∷ xs) =
 -- An element outside extension elements, by what is in scope around it, whether it stands directly in AlternateContent and whether
 -- behind a Fallback there.
 unfoldable pub element_faults : Knows → Scope → Bool → Bool → Tag → List Refusal
-element_faults knows out inside behindFallback t =
+element_faults knows out inside behind_fallback t =
     let at : Scope = scope_with t out in
     fault (nat_lt 128 (length at.bindings)) (ScopeFull t.placed.place)
     ++ start_name_faults t
@@ -157,21 +157,21 @@ element_faults knows out inside behindFallback t =
     ++ ignorable_faults at.bindings (length out.ignorables) (ignorable_of t)
     ++ process_faults at.bindings at.ignorables (length out.processed) (process_content_of t)
     ++ must_faults at.bindings (must_understand_of t)
-    ++ place_faults inside behindFallback (is_ignorable_in at.ignorables t.namespace) t
+    ++ place_faults inside behind_fallback (is_ignorable_in at.ignorables t.namespace) t
     ++ attr_faults (in_mc t.namespace) at.ignorables t
     ++ choice_faults (is_choice t) at.bindings t
     ++ xml_faults (is_unwrapped knows at t) t.attrs
 
 -- Inside an extension element nothing is tried; of an extension element only its place, by what is ignorable around it.
 unfoldable pub tag_faults : Bool → Bool → Knows → Scope → Bool → Bool → Tag → List Refusal
-tag_faults true extension knows out inside behindFallback t = []
-tag_faults false true knows out inside behindFallback t =
-    place_faults inside behindFallback (is_ignorable_in out.ignorables t.namespace) t
-tag_faults false false knows out inside behindFallback t = element_faults knows out inside behindFallback t
+tag_faults true extension knows out inside behind_fallback t = []
+tag_faults false true knows out inside behind_fallback t =
+    place_faults inside behind_fallback (is_ignorable_in out.ignorables t.namespace) t
+tag_faults false false knows out inside behind_fallback t = element_faults knows out inside behind_fallback t
 
 -- the end of an AlternateContent without a Choice
 unfoldable pub end_faults : Bool → Bool → Bool → ℕ → List Refusal
-end_faults in_extension inside hasChoice place = fault (not in_extension && inside && not hasChoice) (Misplaced place)
+end_faults in_extension inside has_choice place = fault (not in_extension && inside && not has_choice) (Misplaced place)
 
 module _ (knows : Knows) (extensions : List Name) where
   unfoldable pub faults_of : Token → List Token → List Refusal
