@@ -1,5 +1,5 @@
 # make example   inspect the bench's record under the office's card
-# make test      the gate: prove everything from nothing, try the must-fail edits, run programs and tests
+# make test      the gate: prove everything, try the must-fail edits, run programs and tests
 # make files     make the example files anew from their sources
 .PHONY: example test files
 
