@@ -1,5 +1,5 @@
 ghost use Rattle.std.specs.Prelude.{◌≡◌, false, not, ◌&&◌};
-ghost use Rattle.sheet.specs.Sheets.{model};
+ghost use Rattle.sheet.specs.Meaning.{meaning};
 ghost use Rattle.calls.specs.Calls.{put};
 ghost use Rattle.course.specs.Rows.{keeps_in, ends_empty, is_keep, is_refuse, row_in};
 
@@ -59,7 +59,7 @@ pub(crate) fn judge_row<S: Sheet>(
     row: PlacedRow,
     kind: Kind,
 ) -> Result<(), Refusal>
-    ensures { put result (model (S.Readable.rows sheet.new) (S.Sheet.draft sheet.new) (S.Sheet.capacity sheet.new) S.Sheet.cost) ≡ row_in (model (S.Readable.rows sheet.old) (S.Sheet.draft sheet.old) (S.Sheet.capacity sheet.old) S.Sheet.cost) around kind row }
+    ensures { put result (meaning S.Readable S.Sheet.own sheet.new) ≡ row_in (meaning S.Readable S.Sheet.own sheet.old) around kind row }
 {
     match becomes(around, kind) {
         Fate::Keep => sheet.put(row),

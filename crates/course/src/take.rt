@@ -2,7 +2,7 @@ ghost use Rattle.std.specs.Prelude.{◌≡◌, List, [], length, Some};
 ghost use Rattle.record.specs.Rows.{kind_of};
 ghost use Rattle.file.specs.Texts.{texts};
 ghost use Rattle.knowledge.specs.Understood.{Knows};
-ghost use Rattle.sheet.specs.Sheets.{model};
+ghost use Rattle.sheet.specs.Meaning.{meaning};
 ghost use Rattle.rules.specs.Elements.{placed_at};
 ghost use Rattle.rules.specs.Order.{row_faults};
 ghost use Rattle.calls.specs.Calls.{taken};
@@ -31,7 +31,7 @@ impl Course {
         lent: Texts<'_>,
         extensions: Extensions<'_>,
     ) -> Result<Option<Opened>, Refusal>
-        ensures waited { (knows : Knows) (rows : List Row) → Stands (texts lent.entry) knows (extension_list extensions.entry) rows self.old → Waited (taken (texts lent.entry) knows (extension_list extensions.entry)) rows self.old self.new (model (S.Readable.rows sheet.old) (S.Sheet.draft sheet.old) (S.Sheet.capacity sheet.old) S.Sheet.cost) (model (S.Readable.rows sheet.new) (S.Sheet.draft sheet.new) (S.Sheet.capacity sheet.new) S.Sheet.cost) result }
+        ensures waited { (knows : Knows) (rows : List Row) → Stands (texts lent.entry) knows (extension_list extensions.entry) rows self.old → Waited (taken (texts lent.entry) knows (extension_list extensions.entry)) rows self.old self.new (meaning S.Readable S.Sheet.own sheet.old) (meaning S.Readable S.Sheet.own sheet.new) result }
         ensures known { self.new.known ≡ self.old.known }
         ensures progress { self.new.progress ≡ self.old.progress }
         ensures frames { self.new.frames ≡ self.old.frames }
@@ -62,7 +62,7 @@ impl Course {
         row: PlacedRow,
         kind: Kind,
     ) -> Result<(), Refusal>
-        ensures judged { (knows : Knows) (rows : List Row) → Stands (texts lent.entry) knows (extension_list extensions.entry) rows self.old → kind_of row.row.kind ≡ Some kind → row ≡ placed_at (length rows) row.row → row_faults (texts lent.entry) rows row.row ≡ [] → Judged (taken (texts lent.entry) knows (extension_list extensions.entry)) rows row kind self.old self.new (model (S.Readable.rows sheet.old) (S.Sheet.draft sheet.old) (S.Sheet.capacity sheet.old) S.Sheet.cost) (model (S.Readable.rows sheet.new) (S.Sheet.draft sheet.new) (S.Sheet.capacity sheet.new) S.Sheet.cost) result }
+        ensures judged { (knows : Knows) (rows : List Row) → Stands (texts lent.entry) knows (extension_list extensions.entry) rows self.old → kind_of row.row.kind ≡ Some kind → row ≡ placed_at (length rows) row.row → row_faults (texts lent.entry) rows row.row ≡ [] → Judged (taken (texts lent.entry) knows (extension_list extensions.entry)) rows row kind self.old self.new (meaning S.Readable S.Sheet.own sheet.old) (meaning S.Readable S.Sheet.own sheet.new) result }
         ensures known { self.new.known ≡ self.old.known }
         ensures progress { self.new.progress ≡ self.old.progress }
     {
@@ -85,7 +85,7 @@ impl Course {
         row: Row,
         kind: Kind,
     ) -> Result<(), Refusal>
-        ensures { (knows : Knows) (rows : List Row) → Stands (texts lent.entry) knows (extension_list extensions.entry) rows self.old → kind_of row.kind ≡ Some kind → row_faults (texts lent.entry) rows row ≡ [] → Took (taken (texts lent.entry) knows (extension_list extensions.entry)) rows row self.new (model (S.Readable.rows sheet.old) (S.Sheet.draft sheet.old) (S.Sheet.capacity sheet.old) S.Sheet.cost) (model (S.Readable.rows sheet.new) (S.Sheet.draft sheet.new) (S.Sheet.capacity sheet.new) S.Sheet.cost) result }
+        ensures { (knows : Knows) (rows : List Row) → Stands (texts lent.entry) knows (extension_list extensions.entry) rows self.old → kind_of row.kind ≡ Some kind → row_faults (texts lent.entry) rows row ≡ [] → Took (taken (texts lent.entry) knows (extension_list extensions.entry)) rows row self.new (meaning S.Readable S.Sheet.own sheet.old) (meaning S.Readable S.Sheet.own sheet.new) result }
     {
         let lengths = self.scope.lengths();
         let placed = PlacedRow {

@@ -1,7 +1,7 @@
 ghost use Rattle.file.specs.Texts.{texts};
 ghost use Rattle.knowledge.specs.Understood.{Knows};
 ghost use Rattle.rules.specs.States.{tag_kept_in};
-ghost use Rattle.sheet.specs.Sheets.{model};
+ghost use Rattle.sheet.specs.Meaning.{meaning};
 ghost use Rattle.judge.specs.Tags.{tag_of};
 ghost use Rattle.enter.specs.Scopes.{scope_of};
 ghost use Rattle.understood.specs.Answers.{Knowing};
@@ -26,7 +26,7 @@ pub fn put_kept<S: Sheet>(
     frame: Frame,
     scope: &InScope,
 ) -> Result<(), Refusal>
-    ensures { (knows : Knows) → Knowing (texts lent.entry) knows known.now → Puts (model (S.Readable.rows sheet.old) (S.Sheet.draft sheet.old) (S.Sheet.capacity sheet.old) S.Sheet.cost) (tag_kept_in knows frame.state frame.entered (scope_of (texts lent.entry) scope.now) (tag_of (texts lent.entry) element.entry)) result (model (S.Readable.rows sheet.new) (S.Sheet.draft sheet.new) (S.Sheet.capacity sheet.new) S.Sheet.cost) }
+    ensures { (knows : Knows) → Knowing (texts lent.entry) knows known.now → Puts (meaning S.Readable S.Sheet.own sheet.old) (tag_kept_in knows frame.state frame.entered (scope_of (texts lent.entry) scope.now) (tag_of (texts lent.entry) element.entry)) result (meaning S.Readable S.Sheet.own sheet.new) }
 {
     if !frame.entered {
         return Ok(());

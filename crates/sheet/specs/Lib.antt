@@ -1,3 +1,4 @@
 pub mod Rows
 pub mod Sheets
 pub mod Tails
+pub mod Meaning

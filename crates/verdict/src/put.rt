@@ -5,7 +5,7 @@ ghost use Rattle.knowledge.specs.Understood.{Knows};
 ghost use Rattle.rules.specs.Elements.{decl_of, attr_of, tag_rows};
 ghost use Rattle.rules.specs.Steps.{when, kept_decls, kept_attrs, kept_tag};
 ghost use Rattle.scope.specs.Entries.{ignorables_of};
-ghost use Rattle.sheet.specs.Sheets.{model};
+ghost use Rattle.sheet.specs.Meaning.{meaning};
 ghost use Rattle.judge.specs.Tags.{tag_of};
 ghost use Rattle.understood.specs.Answers.{Knowing};
 ghost use Rattle.verdict.specs.Puts.{Puts};
@@ -22,7 +22,7 @@ use understood::Understood;
 
 // Puts a row if it is kept.
 fn put_when<S: Sheet>(sheet: &mut S, keeps: bool, row: PlacedRow) -> Result<(), Refusal>
-    ensures { Puts (model (S.Readable.rows sheet.old) (S.Sheet.draft sheet.old) (S.Sheet.capacity sheet.old) S.Sheet.cost) (when keeps row) result (model (S.Readable.rows sheet.new) (S.Sheet.draft sheet.new) (S.Sheet.capacity sheet.new) S.Sheet.cost) }
+    ensures { Puts (meaning S.Readable S.Sheet.own sheet.old) (when keeps row) result (meaning S.Readable S.Sheet.own sheet.new) }
 {
     if !keeps {
         return Ok(());
@@ -37,7 +37,7 @@ fn put_decls<S: Sheet>(
     u: &Understood,
     marks: &[Mark],
 ) -> Result<(), Refusal>
-    ensures { (knows : Knows) → Knowing (texts lent.entry) knows u.now → Puts (model (S.Readable.rows sheet.old) (S.Sheet.draft sheet.old) (S.Sheet.capacity sheet.old) S.Sheet.cost) (kept_decls knows (ignorables_of (texts lent.entry) marks.now) (map (decl_of (texts lent.entry)) decls.now)) result (model (S.Readable.rows sheet.new) (S.Sheet.draft sheet.new) (S.Sheet.capacity sheet.new) S.Sheet.cost) }
+    ensures { (knows : Knows) → Knowing (texts lent.entry) knows u.now → Puts (meaning S.Readable S.Sheet.own sheet.old) (kept_decls knows (ignorables_of (texts lent.entry) marks.now) (map (decl_of (texts lent.entry)) decls.now)) result (meaning S.Readable S.Sheet.own sheet.new) }
 {
     for x in decls {
         let keeps = keeps_decl(*x, lent, u, marks);
@@ -53,7 +53,7 @@ fn put_attrs<S: Sheet>(
     u: &Understood,
     marks: &[Mark],
 ) -> Result<(), Refusal>
-    ensures { (knows : Knows) → Knowing (texts lent.entry) knows u.now → Puts (model (S.Readable.rows sheet.old) (S.Sheet.draft sheet.old) (S.Sheet.capacity sheet.old) S.Sheet.cost) (kept_attrs knows (ignorables_of (texts lent.entry) marks.now) (map (attr_of (texts lent.entry)) attrs.now)) result (model (S.Readable.rows sheet.new) (S.Sheet.draft sheet.new) (S.Sheet.capacity sheet.new) S.Sheet.cost) }
+    ensures { (knows : Knows) → Knowing (texts lent.entry) knows u.now → Puts (meaning S.Readable S.Sheet.own sheet.old) (kept_attrs knows (ignorables_of (texts lent.entry) marks.now) (map (attr_of (texts lent.entry)) attrs.now)) result (meaning S.Readable S.Sheet.own sheet.new) }
 {
     for x in attrs {
         let keeps = keeps_attr(*x, lent, u, marks);
@@ -70,7 +70,7 @@ pub fn put_tag<S: Sheet>(
     u: &Understood,
     marks: &[Mark],
 ) -> Result<(), Refusal>
-    ensures { (knows : Knows) → Knowing (texts lent.entry) knows u.now → Puts (model (S.Readable.rows sheet.old) (S.Sheet.draft sheet.old) (S.Sheet.capacity sheet.old) S.Sheet.cost) (kept_tag knows (ignorables_of (texts lent.entry) marks.now) (tag_of (texts lent.entry) element.entry)) result (model (S.Readable.rows sheet.new) (S.Sheet.draft sheet.new) (S.Sheet.capacity sheet.new) S.Sheet.cost) }
+    ensures { (knows : Knows) → Knowing (texts lent.entry) knows u.now → Puts (meaning S.Readable S.Sheet.own sheet.old) (kept_tag knows (ignorables_of (texts lent.entry) marks.now) (tag_of (texts lent.entry) element.entry)) result (meaning S.Readable S.Sheet.own sheet.new) }
 {
     sheet.put(element.start)?;
     put_decls(sheet, element.decls, lent, u, marks)?;
@@ -79,7 +79,7 @@ pub fn put_tag<S: Sheet>(
 
 // Puts all rows of an extension element's tag, up to the first refusal.
 pub fn put_whole<S: Sheet>(sheet: &mut S, element: Element<'_, '_>) -> Result<(), Refusal>
-    ensures { (names : List Bytes) → Puts (model (S.Readable.rows sheet.old) (S.Sheet.draft sheet.old) (S.Sheet.capacity sheet.old) S.Sheet.cost) (tag_rows (tag_of names element.entry)) result (model (S.Readable.rows sheet.new) (S.Sheet.draft sheet.new) (S.Sheet.capacity sheet.new) S.Sheet.cost) }
+    ensures { (names : List Bytes) → Puts (meaning S.Readable S.Sheet.own sheet.old) (tag_rows (tag_of names element.entry)) result (meaning S.Readable S.Sheet.own sheet.new) }
 {
     sheet.put(element.start)?;
     put_all(sheet, element.decls)?;

@@ -1,6 +1,6 @@
 ghost use Rattle.std.specs.Prelude.{◌≡◌};
 ghost use Rattle.file.specs.Texts.{texts};
-ghost use Rattle.sheet.specs.Sheets.{model};
+ghost use Rattle.sheet.specs.Meaning.{meaning};
 ghost use Rattle.calls.specs.Calls.{Reading, idle, taken, begin_on, row_on, finish_on, abandon_on, done, added, is_of_sheet};
 ghost use Rattle.frames.specs.Lists.{extension_list};
 ghost use Rattle.reader.specs.Holding.{Holds, Does};
@@ -41,7 +41,7 @@ impl<'a> Reader<'a> {
         knowledge: &K,
         extensions: Extensions<'a>,
     ) -> Result<(), Refusal>
-        ensures { (reading : Reading) → Holds self.old reading → Does (begin_on reading (taken (texts lent.entry) (K.Knowledge.meaning knowledge.now) (extension_list extensions.entry)) (model (S.Readable.rows sheet.old) (S.Sheet.draft sheet.old) (S.Sheet.capacity sheet.old) S.Sheet.cost)) self.new (model (S.Readable.rows sheet.new) (S.Sheet.draft sheet.new) (S.Sheet.capacity sheet.new) S.Sheet.cost) (done result) }
+        ensures { (reading : Reading) → Holds self.old reading → Does (begin_on reading (taken (texts lent.entry) (K.Knowledge.meaning knowledge.now) (extension_list extensions.entry)) (meaning S.Readable S.Sheet.own sheet.old)) self.new (meaning S.Readable S.Sheet.own sheet.new) (done result) }
     {
         let _ = sheet;
         if self.open.is_some() {
@@ -58,7 +58,7 @@ impl<'a> Reader<'a> {
 
     // Adds a row to the record and judges what can now be judged.
     pub fn row<S: Sheet>(&mut self, sheet: &mut S, row: Row) -> Result<(), Refusal>
-        ensures { (reading : Reading) → Holds self.old reading → Does (row_on reading row (model (S.Readable.rows sheet.old) (S.Sheet.draft sheet.old) (S.Sheet.capacity sheet.old) S.Sheet.cost)) self.new (model (S.Readable.rows sheet.new) (S.Sheet.draft sheet.new) (S.Sheet.capacity sheet.new) S.Sheet.cost) (done result) }
+        ensures { (reading : Reading) → Holds self.old reading → Does (row_on reading row (meaning S.Readable S.Sheet.own sheet.old)) self.new (meaning S.Readable S.Sheet.own sheet.new) (done result) }
     {
         let Some(source) = self.open else {
             return Err(Refusal::OutOfTurn);
@@ -82,7 +82,7 @@ impl<'a> Reader<'a> {
     // After the root's end: seals the draft, closes the record and answers how many rows were sealed. After a mismatch the
     // draft is dropped instead.
     pub fn finish<S: Sheet>(&mut self, sheet: &mut S) -> Result<usize, Refusal>
-        ensures { (reading : Reading) → Holds self.old reading → Does (finish_on reading (model (S.Readable.rows sheet.old) (S.Sheet.draft sheet.old) (S.Sheet.capacity sheet.old) S.Sheet.cost)) self.new (model (S.Readable.rows sheet.new) (S.Sheet.draft sheet.new) (S.Sheet.capacity sheet.new) S.Sheet.cost) (added result) }
+        ensures { (reading : Reading) → Holds self.old reading → Does (finish_on reading (meaning S.Readable S.Sheet.own sheet.old)) self.new (meaning S.Readable S.Sheet.own sheet.new) (added result) }
     {
         if self.open.is_none() {
             return Err(Refusal::OutOfTurn);
@@ -103,7 +103,7 @@ impl<'a> Reader<'a> {
 
     // Drops the draft and closes the record.
     pub fn abandon<S: Sheet>(&mut self, sheet: &mut S) -> Result<(), Refusal>
-        ensures { (reading : Reading) → Holds self.old reading → Does (abandon_on reading (model (S.Readable.rows sheet.old) (S.Sheet.draft sheet.old) (S.Sheet.capacity sheet.old) S.Sheet.cost)) self.new (model (S.Readable.rows sheet.new) (S.Sheet.draft sheet.new) (S.Sheet.capacity sheet.new) S.Sheet.cost) (done result) }
+        ensures { (reading : Reading) → Holds self.old reading → Does (abandon_on reading (meaning S.Readable S.Sheet.own sheet.old)) self.new (meaning S.Readable S.Sheet.own sheet.new) (done result) }
     {
         if self.open.is_none() {
             return Err(Refusal::OutOfTurn);
