@@ -31,7 +31,7 @@ pub(crate) fn well_formed(lent: Texts<'_>, row: Row) -> Option<Kind>
     ensures formed { is_some result ≡ is_well_formed (texts lent.entry) row }
     ensures kind { IfSome result (λ k. kind_of row.kind ≡ Some k) }
 {
-    let kind = Kind::of(row.kind)?;
+    let kind = Kind::try_from(row.kind).ok()?;
     if !is_shaped(kind, row) {
         return None;
     }

@@ -32,7 +32,7 @@ impl<'a> Outline<'a> {
     fn has_room(&self, row: PlacedRow) -> bool
         ensures { result ≡ nat_le (spent outline_cost (rows_of (items self.now.roll)) + cost_of outline_cost row) (outline_capacity self.now) }
     {
-        row.row.kind == Kind::End.number() || self.roll.has_room()
+        row.row.kind == u32::from(Kind::End) || self.roll.has_room()
     }
 
     // Puts a row that has an entry.
@@ -96,7 +96,7 @@ impl<'a> Sheet for Outline<'a> {
 
     fn put(&mut self, row: PlacedRow) -> Result<(), Refusal> {
         self.tail.judge(row, self.has_room(row))?;
-        if row.row.kind == Kind::End.number() {
+        if row.row.kind == u32::from(Kind::End) {
             self.put_end(row);
         } else {
             self.put_entry(row);

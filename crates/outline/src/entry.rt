@@ -24,7 +24,7 @@ pub struct Entry {
 fn is_start(row: PlacedRow) -> bool
     ensures { result ≡ is_start row }
 {
-    row.row.kind == Kind::Start.number()
+    row.row.kind == u32::from(Kind::Start)
 }
 
 // The entry of a row that is no end.
@@ -78,7 +78,7 @@ pub(crate) fn end_row(place: u32) -> PlacedRow
     PlacedRow {
         place,
         row: Row {
-            kind: Kind::End.number(),
+            kind: Kind::End.into(),
             a: 0,
             b: 0,
             c: 0,

@@ -1,78 +1,82 @@
-ghost use Rattle.std.specs.Prelude.{◌≡◌};
+ghost use Rattle.std.specs.Prelude.{◌≡◌, MatchOption};
 ghost use Rattle.record.specs.Refusals.{numbered, place_of, cause_of, cause_number};
+
+use thiserror::Error;
 
 // Why a record that was read to its end is not sealed.
 #[derive(Clone, Copy, PartialEq, Eq, Debug)]
 pub enum Cause {
     // MustUnderstand names a namespace that is not understood.
-    MustUnderstand,
+    MustUnderstand = 1,
     // AlternateContent has a child that is neither a branch nor ignored.
-    StrayChild,
+    StrayChild = 2,
     // A kept element or attribute has a namespace that is not understood.
-    ForeignName,
+    ForeignName = 3,
 }
 
-impl Cause {
-    pub fn number(self) -> u32
-        ensures { result ≡ cause_number self }
-    {
-        match self {
-            Cause::MustUnderstand => 1,
-            Cause::StrayChild => 2,
-            Cause::ForeignName => 3,
-        }
+impl From<Cause> for u32 {
+    ghost from_gives = { λ cause number. number ≡ cause_number cause };
+
+    fn from(cause: Cause) -> u32 {
+        cause as u32
     }
 }
 
 // What a call hands back in place of a result. Each has a number and a place, 0 if none is named;
 // docs/REFUSALS.md says when each comes and what it leaves.
-#[derive(Clone, Copy, PartialEq, Eq, Debug)]
+#[derive(Clone, Copy, PartialEq, Eq, Debug, Error)]
 pub enum Refusal {
-    // The file has fewer than 12 bytes.
+    #[error("the file has fewer than 12 bytes")]
     TooShort,
-    // A count of the file is outside its limits.
+    #[error("the number of texts, rows or text bytes is outside its limits")]
     OutsideLimits,
-    // The file's length is not the one that its counts give.
+    #[error("the file's length is not the one that its counts give")]
     WrongLength,
-    // Pair 0 is not (0, 0), or a pair begins before the end of the one before, or ends past the text bytes.
+    #[error("pair 0 is not (0, 0), or the text begins before the end of the one before or ends past the text bytes")]
     MisplacedText { pair: u32 },
-    // A pair has the bytes of an earlier one.
+    #[error("the text has the bytes of an earlier one")]
     RepeatedText { pair: u32 },
-    // A card's row has another kind, a number that names no text, or the name of markup compatibility.
+    #[error("no row of a card: its kind, a number that names no text, or the name of markup compatibility")]
     BadCardRow { row: u32 },
-    // Begin or file with a record open, another call with none.
+    #[error("begin or file with a record open, or another call with none")]
     OutOfTurn,
-    // Row or finish on a spoilt record.
+    // At row or finish.
+    #[error("the record is spoilt")]
     Spoilt,
-    // A row has another kind, or a number that names no text.
+    #[error("no row of a record: its kind, or a number that names no text")]
     BadRow { place: u32 },
-    // A row that may not come next, or finish before the root's end.
+    #[error("the row may not come here, or the record is not at its end")]
     OutOfOrder { place: u32 },
-    // A forbidden declaration, or a prefix or attribute name that its element has already.
+    #[error("a forbidden declaration, or a prefix or attribute name that the element has already")]
     Forbidden { place: u32 },
-    // More levels, declarations, attributes or rows than a record may have.
+    #[error("more than 64 levels, 32 declarations, 32 attributes or 2,048 rows")]
     TooMany { place: u32 },
-    // A 129th entry in scope.
+    #[error("a 129th entry in scope")]
     ScopeFull { place: u32 },
-    // A malformed item, or Requires without one.
+    #[error("a malformed item, or Requires without one")]
     BadItem { place: u32 },
-    // A prefix that is not bound.
+    #[error("a prefix that is not bound")]
     Unbound { place: u32 },
-    // Ignorable names markup compatibility, or ProcessContent a namespace that is not ignorable.
+    #[error("Ignorable names markup compatibility, or ProcessContent a namespace that is not ignorable")]
     NotIgnorable { place: u32 },
-    // An element or attribute that markup compatibility does not have.
+    // The name of an element or an attribute.
+    #[error("a name that markup compatibility does not have")]
     UnknownName { place: u32 },
-    // An attribute that an element of markup compatibility may not have, or a Choice without Requires.
+    // The element is one of markup compatibility.
+    #[error("an attribute that the element may not have, or a Choice without Requires")]
     BadAttribute { place: u32 },
     // A branch elsewhere, a second Fallback, a Choice after it, no Choice, or another child that is not ignorable.
+    #[error("a branch or a child of AlternateContent out of place, or AlternateContent without a Choice")]
     Misplaced { place: u32 },
-    // An unwrapped element has xml:base, xml:lang or xml:space.
+    #[error("an unwrapped element has xml:base, xml:lang or xml:space")]
     XmlAttribute { place: u32 },
-    // The sheet has no room for the row.
+    #[error("the sheet has no room for the row")]
     NoRoom { place: u32 },
-    // The record is at its end and has a mismatch, of which this is the first.
+    // The record is at its end, and this is its first mismatch.
+    #[error("the record has a mismatch")]
     Mismatch { place: u32, cause: Cause },
-    // A row that a sheet cannot hold, or a seal while a start is open.
+    // A start is open at a seal.
+    #[error("the sheet cannot hold the row, or a start is open")]
     NotForSheet,
 }
 
@@ -108,6 +112,7 @@ impl Refusal {
     }
 
     // The pair, row or place that the refusal names, 0 if none.
+    // Kept: the calls give every refusal a place, so callers would only write `unwrap_or(0)`.
     pub fn place(self) -> u32
         ensures { result ≡ place_of self }
     {
@@ -137,13 +142,13 @@ impl Refusal {
         }
     }
 
-    // The number of a mismatch's cause, 0 for any other refusal.
-    pub fn cause(self) -> u32
-        ensures { result ≡ cause_of self }
+    // The cause of a mismatch; no other refusal has one.
+    pub fn cause(self) -> Option<Cause>
+        ensures { MatchOption result (cause_of self ≡ 0) (λ cause. cause_of self ≡ cause_number cause) }
     {
         match self {
-            Refusal::Mismatch { cause, .. } => cause.number(),
-            _ => 0,
+            Refusal::Mismatch { cause, .. } => Some(cause),
+            _ => None,
         }
     }
 }

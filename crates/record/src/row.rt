@@ -1,5 +1,8 @@
 ghost use Rattle.std.specs.Prelude.{◌≡◌};
-ghost use Rattle.record.specs.Rows.{kind_of, kind_number};
+ghost use Rattle.record.specs.Rows.{NamesKind, kind_number};
+
+use std::error::Error;
+use std::fmt;
 
 // A row as it comes in: a kind and three numbers, none of them checked.
 #[derive(Clone, Copy, PartialEq, Eq, Debug)]
@@ -17,45 +20,54 @@ pub struct PlacedRow {
     pub row: Row,
 }
 
-// The kinds of rows of a record.
+// The kinds of rows of a record, each with the number that a row names it by.
 #[derive(Clone, Copy, PartialEq, Eq, Debug)]
 pub enum Kind {
     // namespace, local name, 0
-    Start,
+    Start = 1,
     // prefix, namespace, 0
-    Declaration,
+    Declaration = 2,
     // namespace, local name, value
-    Attribute,
+    Attribute = 3,
     // text, 0, 0
-    Text,
+    Text = 4,
     // 0, 0, 0
-    End,
+    End = 5,
 }
 
-impl Kind {
-    // The kind that a row's first number names.
-    pub fn of(number: u32) -> Option<Kind>
-        ensures { result ≡ kind_of number }
-    {
+// A number that no kind has.
+#[derive(Clone, Copy, PartialEq, Eq, Debug)]
+pub struct UnknownKind(pub u32);
+
+impl TryFrom<u32> for Kind {
+    type Error = UnknownKind;
+
+    ghost try_from_gives = { NamesKind };
+
+    fn try_from(number: u32) -> Result<Kind, UnknownKind> {
         match number {
-            1 => Some(Kind::Start),
-            2 => Some(Kind::Declaration),
-            3 => Some(Kind::Attribute),
-            4 => Some(Kind::Text),
-            5 => Some(Kind::End),
-            _ => None,
-        }
-    }
-
-    pub fn number(self) -> u32
-        ensures { result ≡ kind_number self }
-    {
-        match self {
-            Kind::Start => 1,
-            Kind::Declaration => 2,
-            Kind::Attribute => 3,
-            Kind::Text => 4,
-            Kind::End => 5,
+            1 => Ok(Kind::Start),
+            2 => Ok(Kind::Declaration),
+            3 => Ok(Kind::Attribute),
+            4 => Ok(Kind::Text),
+            5 => Ok(Kind::End),
+            _ => Err(UnknownKind(number)),
         }
     }
 }
+
+impl From<Kind> for u32 {
+    ghost from_gives = { λ kind number. number ≡ kind_number kind };
+
+    fn from(kind: Kind) -> u32 {
+        kind as u32
+    }
+}
+
+impl fmt::Display for UnknownKind {
+    fn fmt<W: fmt::Write>(&self, f: &mut fmt::Formatter<W>) -> fmt::Result {
+        write!(f, "no row has the kind {}", self.0)
+    }
+}
+
+impl Error for UnknownKind {}

@@ -16,12 +16,12 @@ pub struct Tail {
 fn is_well_formed(row: Row) -> bool
     ensures { result ≡ well_formed row }
 {
-    match Kind::of(row.kind) {
-        Some(Kind::Start | Kind::Declaration) => row.c == 0,
-        Some(Kind::Attribute) => true,
-        Some(Kind::Text) => row.b == 0 && row.c == 0,
-        Some(Kind::End) => row.a == 0 && row.b == 0 && row.c == 0,
-        None => false,
+    match Kind::try_from(row.kind) {
+        Ok(Kind::Start | Kind::Declaration) => row.c == 0,
+        Ok(Kind::Attribute) => true,
+        Ok(Kind::Text) => row.b == 0 && row.c == 0,
+        Ok(Kind::End) => row.a == 0 && row.b == 0 && row.c == 0,
+        Err(_) => false,
     }
 }
 
@@ -54,7 +54,7 @@ impl Tail {
     fn can_close(self, row: PlacedRow) -> bool
         ensures { result ≡ closes self.starts row }
     {
-        row.row.kind != Kind::End.number() || self.starts > 0
+        row.row.kind != u32::from(Kind::End) || self.starts > 0
     }
 
     fn can_follow(self, row: PlacedRow) -> bool
@@ -81,9 +81,9 @@ impl Tail {
         requires { self.starts + 1 < 2 ^ 64 }
         ensures { result ≡ tail_behind self row }
     {
-        let starts = match Kind::of(row.row.kind) {
-            Some(Kind::Start) => self.starts + 1,
-            Some(Kind::End) => self.starts.saturating_sub(1),
+        let starts = match Kind::try_from(row.row.kind) {
+            Ok(Kind::Start) => self.starts + 1,
+            Ok(Kind::End) => self.starts.saturating_sub(1),
             _ => self.starts,
         };
         Tail {

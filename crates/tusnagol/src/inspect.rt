@@ -56,9 +56,9 @@ fn names_namespace(file: &File<'_>, number: u32) -> bool {
         let Some(row) = file.row(i) else {
             return false;
         };
-        let namespace = match Kind::of(row.kind) {
-            Some(Kind::Start) | Some(Kind::Attribute) => row.a,
-            Some(Kind::Declaration) => row.b,
+        let namespace = match Kind::try_from(row.kind) {
+            Ok(Kind::Start | Kind::Attribute) => row.a,
+            Ok(Kind::Declaration) => row.b,
             _ => 0,
         };
         if namespace == number {
@@ -97,9 +97,9 @@ fn print_extensions(rt: &HostRuntime, file: &File<'_>, list: Extensions<'_>) -> 
         let Some(row) = file.row(place) else {
             break;
         };
-        match Kind::of(row.kind) {
-            Some(Kind::Start) if inside > 0 => inside = inside.saturating_add(1),
-            Some(Kind::Start) if list.has(texts.at(row.a), texts.at(row.b)) => {
+        match Kind::try_from(row.kind) {
+            Ok(Kind::Start) if inside > 0 => inside = inside.saturating_add(1),
+            Ok(Kind::Start) if list.has(texts.at(row.a), texts.at(row.b)) => {
                 inside = 1;
                 let name = Name {
                     texts,
@@ -108,7 +108,7 @@ fn print_extensions(rt: &HostRuntime, file: &File<'_>, list: Extensions<'_>) -> 
                 };
                 println!(rt; "  extension element at {place}: {name}")?;
             }
-            Some(Kind::End) => inside = inside.saturating_sub(1),
+            Ok(Kind::End) => inside = inside.saturating_sub(1),
             _ => {}
         }
     }

@@ -92,14 +92,14 @@ impl<'a> Line<'a> {
 
 impl<'a> fmt::Display for Line<'a> {
     fn fmt<W: fmt::Write>(&self, f: &mut fmt::Formatter<W>) -> fmt::Result {
-        match Kind::of(self.row.kind) {
-            Some(Kind::Start) => {
+        match Kind::try_from(self.row.kind) {
+            Ok(Kind::Start) => {
                 let name = self.name();
                 write!(f, "element {name}")
             }
-            Some(Kind::Declaration) => self.write_declaration(f),
-            Some(Kind::Attribute) => self.write_attribute(f),
-            Some(Kind::Text) => {
+            Ok(Kind::Declaration) => self.write_declaration(f),
+            Ok(Kind::Attribute) => self.write_attribute(f),
+            Ok(Kind::Text) => {
                 let text = self.quoted(self.row.a);
                 write!(f, "text {text}")
             }
@@ -117,12 +117,12 @@ pub(crate) fn print_tree(rt: &HostRuntime, file: &File<'_>) -> io::Result<()> {
             break;
         };
         let line = Line { texts, row };
-        match Kind::of(row.kind) {
-            Some(Kind::Start) => {
+        match Kind::try_from(row.kind) {
+            Ok(Kind::Start) => {
                 print_row(rt, place, open.len(), &line)?;
                 open.push(line.name())?;
             }
-            Some(Kind::End) => {
+            Ok(Kind::End) => {
                 let element = open.pop();
                 print_row(rt, place, open.len(), &Close { element })?;
             }

@@ -17,22 +17,22 @@ returns-in_err-judge c =
 pub put_end-requires : goal.put_end-requires
 put_end-requires c =
     let room = accepted-room _ _ _ c.in_ok-judge.ensures in
-    record { fine = c.in_ok-judge.ensures ∙ ap (judged c.args.self.now.tail c.args.row) room; ends = eq-eqb _ _ (c.if-row-number.true ∙ c.number.ensures) }
+    record { fine = c.in_ok-judge.ensures ∙ ap (judged c.args.self.now.tail c.args.row) room; ends = eq-eqb _ _ (c.if-row-from.true ∙ c.from.ensures) }
 
 pub put_entry-requires : goal.put_entry-requires
 put_entry-requires c =
     let room = accepted-room _ _ _ c.in_ok-judge.ensures in
-    let other : is_end c.args.row ≡ false = ne_eqb _ _ (λ e. c.if-row-number.false (e ∙ sym c.number.ensures)) in
+    let other : is_end c.args.row ≡ false = ne_eqb _ _ (λ e. c.if-row-from.false (e ∙ sym c.from.ensures)) in
     let one : cost_of outline_cost c.args.row ≡ 1 = grind arith in
     let fits = leb-true _ _ (sym c.has_room.ensures ∙ room) in
     record { fine = c.in_ok-judge.ensures ∙ ap (judged c.args.self.now.tail c.args.row) room; stays = other; room = omega (arith, c.args.self.now.kept.1) }
 
-pub returns-then-row-number : goal.returns-then-row-number
-returns-then-row-number c =
+pub returns-then-row-from : goal.returns-then-row-from
+returns-then-row-from c =
     let q = put-accepted _ _ (rows_of (items c.args.self.now.roll)) c.args.self.now.drafted (slot_count c.args.self.now.roll) outline_cost c.args.row _ _ (c.has_room.ensures, c.in_ok-judge.ensures) c.put_end.ensures.rows in
     record { answer = q.0; meaning = ap (λ n. cut n (rows_of (items c.put_end.new.self.roll)) (slot_count c.put_end.new.self.roll) outline_cost) c.put_end.ensures.sealed ∙ ap (λ n. cut c.args.self.now.count (rows_of (items c.put_end.new.self.roll)) n outline_cost) c.put_end.ensures.slots ∙ q.1 }
 
-pub returns-else-row-number : goal.returns-else-row-number
-returns-else-row-number c =
+pub returns-else-row-from : goal.returns-else-row-from
+returns-else-row-from c =
     let q = put-accepted _ _ (rows_of (items c.args.self.now.roll)) c.args.self.now.drafted (slot_count c.args.self.now.roll) outline_cost c.args.row _ _ (c.has_room.ensures, c.in_ok-judge.ensures) c.put_entry.ensures.rows in
     record { answer = q.0; meaning = ap (λ n. cut n (rows_of (items c.put_entry.new.self.roll)) (slot_count c.put_entry.new.self.roll) outline_cost) c.put_entry.ensures.sealed ∙ ap (λ n. cut c.args.self.now.count (rows_of (items c.put_entry.new.self.roll)) n outline_cost) c.put_entry.ensures.slots ∙ q.1 }

@@ -2,13 +2,13 @@ use Rattle.std.proofs.Common.{rules}
 use Rattle.sheet.specs.Tails.{tail_behind}
 use Rattle.sheet.proofs.tail.Tail.behind.Goals as goal
 
-pub returns-in-Some-Start : goal.returns-in-Some-Start
+pub returns-in-Ok-Start : goal.returns-in-Ok-Start
 unfolding tail_behind
-returns-in-Some-Start c = search rules
+returns-in-Ok-Start c = search rules
 
-pub returns-in-Some-End : goal.returns-in-Some-End
+pub returns-in-Ok-End : goal.returns-in-Ok-End
 unfolding tail_behind
-returns-in-Some-End c = search rules
+returns-in-Ok-End c = search rules
 
 pub returns-in_default : goal.returns-in_default
 unfolding tail_behind
