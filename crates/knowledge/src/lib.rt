@@ -25,10 +25,7 @@ impl<A: Knowledge, B: Knowledge> Knowledge for Either<A, B> {
     ghost meaning = { λ e name. A.Knowledge.meaning e.first name || B.Knowledge.meaning e.second name };
 
     fn knows(&self, name: &[u8]) -> bool {
-        if self.first.knows(name) {
-            return true;
-        }
-        self.second.knows(name)
+        self.first.knows(name) || self.second.knows(name)
     }
 }
 
@@ -36,11 +33,5 @@ impl<A: Knowledge, B: Knowledge> Knowledge for Either<A, B> {
 pub fn understands<K: Knowledge>(knowledge: &K, namespace: &[u8]) -> bool
     ensures { result ≡ is_understood (K.Knowledge.meaning knowledge.now) namespace.now }
 {
-    if is_mc(namespace) {
-        return false;
-    }
-    if is_xml(namespace) {
-        return true;
-    }
-    knowledge.knows(namespace)
+    !is_mc(namespace) && (is_xml(namespace) || knowledge.knows(namespace))
 }
