@@ -30,6 +30,7 @@ impl<A: Knowledge, B: Knowledge> Knowledge for Either<A, B> {
 }
 
 // Whether a namespace is understood: markup compatibility never, XML always, any other if the knowledge says yes.
+#[tactic(auto, unfolding(crate::specs::Understood::is_understood))]
 pub fn understands<K: Knowledge>(knowledge: &K, namespace: &[u8]) -> bool
     ensures { result ≡ is_understood (K.Knowledge.meaning knowledge.now) namespace.now }
 {

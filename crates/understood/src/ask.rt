@@ -4,7 +4,9 @@ ghost use Rattle.file.specs.Texts.{texts};
 ghost use Rattle.knowledge.specs.Understood.{is_understood};
 ghost use Rattle.understood.specs.Answers.{asked, asked_of, Knowing};
 
-use crate::Understood;
+use std::array;
+
+use crate::{TEXTS, Understood};
 use file::texts::Texts;
 use knowledge::{Knowledge, understands};
 use scope::entries::Space;
@@ -26,7 +28,7 @@ impl Understood {
         ensures { (n : ℕ) → asked result n ≡ false }
     {
         Understood {
-            answers: [false; 1024],
+            answers: [false; TEXTS],
             empty: false,
         }
     }
@@ -37,20 +39,14 @@ impl Understood {
     {
         let empty = understands(knowledge, b"");
         self.empty = empty;
-        for n in 0..1024 {
-            self.answers[n] = answer(knowledge, empty, lent, n as u32);
-        }
+        self.answers = array::from_fn(|n| answer(knowledge, empty, lent, n as u32));
     }
 
     // Whether the namespace of this number is understood.
     pub fn has(&self, n: u32) -> bool
         ensures { result ≡ asked self.now n }
     {
-        let k = n as usize;
-        if k < 1024 {
-            return self.answers[k];
-        }
-        self.empty
+        self.answers.get(n as usize).copied().unwrap_or(self.empty)
     }
 
     // Whether a namespace in scope is understood; XML always is.
