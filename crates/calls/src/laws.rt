@@ -2,50 +2,34 @@
 ghost use Rattle.calls.specs.Law.{EveryRunIsLawful};
 ghost use Rattle.calls.specs.Promises.{RowRefusalsLeave, FinishRefusalsLeave, FileIsItsCalls, RecordsComeOut, SheetTakesItsOwn, PairingIsOne, SealedRowsPair};
 
-pub fn every_run_is_lawful() -> u8
+pub fn every_run_is_lawful()
     ensures { EveryRunIsLawful }
-{
-    0
-}
+{}
 
-pub fn row_refusals_leave() -> u8
+pub fn row_refusals_leave()
     ensures { RowRefusalsLeave }
-{
-    0
-}
+{}
 
-pub fn finish_refusals_leave() -> u8
+pub fn finish_refusals_leave()
     ensures { FinishRefusalsLeave }
-{
-    0
-}
+{}
 
-pub fn file_is_its_calls() -> u8
+pub fn file_is_its_calls()
     ensures { FileIsItsCalls }
-{
-    0
-}
+{}
 
-pub fn records_come_out() -> u8
+pub fn records_come_out()
     ensures { RecordsComeOut }
-{
-    0
-}
+{}
 
-pub fn sheet_takes_its_own() -> u8
+pub fn sheet_takes_its_own()
     ensures { SheetTakesItsOwn }
-{
-    0
-}
+{}
 
-pub fn pairing_is_one() -> u8
+pub fn pairing_is_one()
     ensures { PairingIsOne }
-{
-    0
-}
+{}
 
-pub fn sealed_rows_pair() -> u8
+pub fn sealed_rows_pair()
     ensures { SealedRowsPair }
-{
-    0
-}
+{}

@@ -25,22 +25,14 @@ impl<A: Knowledge, B: Knowledge> Knowledge for Either<A, B> {
     ghost meaning = { λ e name. A.Knowledge.meaning e.first name || B.Knowledge.meaning e.second name };
 
     fn knows(&self, name: &[u8]) -> bool {
-        if self.first.knows(name) {
-            return true;
-        }
-        self.second.knows(name)
+        self.first.knows(name) || self.second.knows(name)
     }
 }
 
 // Whether a namespace is understood: markup compatibility never, XML always, any other if the knowledge says yes.
+#[tactic(auto, unfolding(crate::specs::Understood::is_understood))]
 pub fn understands<K: Knowledge>(knowledge: &K, namespace: &[u8]) -> bool
     ensures { result ≡ is_understood (K.Knowledge.meaning knowledge.now) namespace.now }
 {
-    if is_mc(namespace) {
-        return false;
-    }
-    if is_xml(namespace) {
-        return true;
-    }
-    knowledge.knows(namespace)
+    !is_mc(namespace) && (is_xml(namespace) || knowledge.knows(namespace))
 }

@@ -4,14 +4,10 @@
 ghost use Rattle.rules_cases.specs.Eight.{EightAsStated};
 ghost use Rattle.rules_cases.specs.Worked.{WorkedAsStated};
 
-pub fn eight_records_come_out_as_stated() -> u8
+pub fn eight_records_come_out_as_stated()
     ensures { EightAsStated }
-{
-    0
-}
+{}
 
-pub fn worked_records_come_out_as_stated() -> u8
+pub fn worked_records_come_out_as_stated()
     ensures { WorkedAsStated }
-{
-    0
-}
+{}

@@ -1,5 +1,5 @@
 -- What was answered for the texts of a record, and when that is what a knowledge says of them.
-use Rattle.std.specs.Prelude.{◌≡◌, ℕ, Bool, true, false, cond, List, nat_lt, slice_index_or}
+use Rattle.std.specs.Prelude.{◌≡◌, ℕ, Bool, true, List, slice_index_or}
 use Rattle.text.specs.Bytes.{Bytes}
 use Rattle.file.specs.Form.{text_at}
 use Rattle.knowledge.specs.Understood.{Knows, is_understood}
@@ -7,9 +7,9 @@ use Rattle.scope.specs.declared.entries.Space.{Space}
 use Rattle.scope.specs.declared.entries.Space.TheVariants.{Text, Xml}
 use Rattle.understood.specs.declared.Understood.{Understood}
 
--- the answer for a number; from 1,024 on no record has a text, so that the number stands for the empty string
+-- the answer for a number; one past the last stands for the empty string
 unfoldable pub asked : Understood → ℕ → Bool
-asked u n = cond (nat_lt n 1024) (slice_index_or u.answers n false) u.empty
+asked u n = slice_index_or u.answers n u.empty
 
 -- XML is always understood
 abbrev pub asked_of : Understood → Space → Bool

@@ -4,20 +4,23 @@ ghost use Rattle.file.specs.Texts.{texts};
 ghost use Rattle.knowledge.specs.Understood.{is_understood};
 ghost use Rattle.understood.specs.Answers.{asked, asked_of, Knowing};
 
-use crate::Understood;
+use crate::{TEXTS, Understood};
 use file::texts::Texts;
 use knowledge::{Knowledge, understands};
 use scope::entries::Space;
+use std::array;
 
 // What the knowledge says of a text; what it says of the empty one was asked before.
+#[tactic(auto, using(std::proofs::lemmas::List::nil_from_length))]
 fn answer<K: Knowledge>(knowledge: &K, empty: bool, lent: Texts<'_>, n: u32) -> bool
     ensures { empty ≡ is_understood (K.Knowledge.meaning knowledge.now) [] → result ≡ is_understood (K.Knowledge.meaning knowledge.now) (text_at (texts lent.entry) n) }
 {
     let text = lent.at(n);
     if text.is_empty() {
-        return empty;
+        empty
+    } else {
+        understands(knowledge, text)
     }
-    understands(knowledge, text)
 }
 
 impl Understood {
@@ -26,7 +29,7 @@ impl Understood {
         ensures { (n : ℕ) → asked result n ≡ false }
     {
         Understood {
-            answers: [false; 1024],
+            answers: [false; TEXTS],
             empty: false,
         }
     }
@@ -37,20 +40,15 @@ impl Understood {
     {
         let empty = understands(knowledge, b"");
         self.empty = empty;
-        for n in 0..1024 {
-            self.answers[n] = answer(knowledge, empty, lent, n as u32);
-        }
+        self.answers = array::from_fn(|n| answer(knowledge, empty, lent, n as u32));
     }
 
     // Whether the namespace of this number is understood.
+    #[tactic(auto, unfolding(crate::specs::Answers::asked))]
     pub fn has(&self, n: u32) -> bool
         ensures { result ≡ asked self.now n }
     {
-        let k = n as usize;
-        if k < 1024 {
-            return self.answers[k];
-        }
-        self.empty
+        self.answers.get(n as usize).copied().unwrap_or(self.empty)
     }
 
     // Whether a namespace in scope is understood; XML always is.
