@@ -1,4 +1,4 @@
-pub mod Held
+pub mod Repeats
 pub mod Rests
 pub mod Noted
 pub mod Refused

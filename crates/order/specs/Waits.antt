@@ -1,5 +1,5 @@
 -- What a waiting element means to the rules: its tag, as a list of one token.
-use Rattle.std.specs.Prelude.{cond, List, [], ◌∷◌, map, Some, None, Option}
+use Rattle.std.specs.Prelude.{List, [], ◌∷◌, map, Some, None, Option}
 use Rattle.text.specs.Bytes.{Bytes}
 use Rattle.record.specs.declared.row.PlacedRow.{PlacedRow}
 use Rattle.file.specs.Form.{text_at}
@@ -20,8 +20,12 @@ tag_from texts start decls attrs =
       attrs = map (attr_of texts) attrs;
     }
 
-unfoldable pub waiting_of : List Bytes → Waiting → List Token
-waiting_of texts w = cond w.present (tag (tag_from texts w.start (held w.decls) (held w.attrs)) ∷ []) []
+abbrev pub tokens_from : List Bytes → Option PlacedRow → List PlacedRow → List PlacedRow → List Token
+tokens_from texts None decls attrs = []
+tokens_from texts (Some start) decls attrs = tag (tag_from texts start decls attrs) ∷ []
+
+abbrev pub waiting_of : List Bytes → Waiting → List Token
+waiting_of texts w = tokens_from texts w.start (held w.decls) (held w.attrs)
 
 -- the same of an element that is handed on to be judged
 abbrev pub waiting_tag : List Bytes → Option Element → List Token

@@ -32,30 +32,17 @@ pub(crate) fn well_formed(lent: Texts<'_>, row: Row) -> Option<Kind>
     ensures kind { IfSome result (λ k. kind_of row.kind ≡ Some k) }
 {
     let kind = Kind::try_from(row.kind).ok()?;
-    if !is_shaped(kind, row) {
-        return None;
-    }
-    if !names_text(lent, row.a) {
-        return None;
-    }
-    if !names_text(lent, row.b) {
-        return None;
-    }
-    if !names_text(lent, row.c) {
-        return None;
-    }
-    Some(kind)
+    let formed = is_shaped(kind, row)
+        && names_text(lent, row.a)
+        && names_text(lent, row.b)
+        && names_text(lent, row.c);
+    formed.then_some(kind)
 }
 
+#[tactic(auto, using(items::proofs::Fronts::empty_length), unfolding(rules::specs::Order::is_forbidden_decl))]
 // The prefix `xml`, or a prefix other than the default for no namespace.
 pub(crate) fn is_forbidden_decl(prefix: &[u8], namespace: &[u8]) -> bool
     ensures { result ≡ is_forbidden_decl prefix.now namespace.now }
 {
-    if is_xml_prefix(prefix) {
-        return true;
-    }
-    if prefix.is_empty() {
-        return false;
-    }
-    namespace.is_empty()
+    is_xml_prefix(prefix) || !prefix.is_empty() && namespace.is_empty()
 }

@@ -1,5 +1,5 @@
 // How far a record has come, and which row may come next.
-#![tactic(auto)]
+#![tactic(auto, unfolding(rules::specs::Elements::open_elements, rules::specs::Order::open_order, rules::specs::Records::open_records))]
 
 mod form;
 pub mod progress;

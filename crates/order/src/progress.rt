@@ -10,12 +10,11 @@ use record::row::{Kind, PlacedRow, Row};
 pub mod next;
 pub mod state;
 
-// How far a record has come: its rows, the elements that are open, whether its root has ended, and the element that waits to be judged.
+// How far a record has come: its rows, the elements that are open, and the element that waits to be judged.
 #[derive(Drop)]
 pub struct Progress {
     rows: u32,
     depth: usize,
-    ended: bool,
     waiting: Waiting,
 }
 
@@ -27,7 +26,6 @@ impl Progress {
         Progress {
             rows: 0,
             depth: 0,
-            ended: false,
             waiting: Waiting::none(),
         }
     }
@@ -38,7 +36,6 @@ impl Progress {
     {
         self.rows = 0;
         self.depth = 0;
-        self.ended = false;
         self.waiting.clear();
     }
 
@@ -61,7 +58,6 @@ impl Progress {
             Kind::Text => self.waiting.clear(),
             Kind::End => {
                 self.depth = self.depth.saturating_sub(1);
-                self.ended = self.depth == 0;
                 self.waiting.clear();
             }
         }

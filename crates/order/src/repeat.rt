@@ -13,31 +13,20 @@ use text::bytes::same;
 pub(crate) fn has_prefix(decls: &[PlacedRow], lent: Texts<'_>, prefix: &[u8]) -> bool
     ensures { result ≡ has_prefix prefix.now (map (decl_of (texts lent.entry)) decls.now) }
 {
-    for x in decls {
-        if same(lent.at(x.row.a), prefix) {
-            return true;
-        }
-    }
-    false
+    decls.iter().any(|x| same(lent.at(x.row.a), prefix))
 }
 
 fn is_named(x: PlacedRow, lent: Texts<'_>, namespace: &[u8], name: &[u8]) -> bool
     ensures { result ≡ bytes_eq (text_at (texts lent.entry) x.row.a) namespace.now && bytes_eq (text_at (texts lent.entry) x.row.b) name.now }
 {
-    if !same(lent.at(x.row.a), namespace) {
-        return false;
-    }
-    same(lent.at(x.row.b), name)
+    same(lent.at(x.row.a), namespace) && same(lent.at(x.row.b), name)
 }
 
 // Whether one of these attributes has the name.
 pub(crate) fn has_attr(attrs: &[PlacedRow], lent: Texts<'_>, namespace: &[u8], name: &[u8]) -> bool
     ensures { result ≡ has_attr namespace.now name.now (map (attr_of (texts lent.entry)) attrs.now) }
 {
-    for x in attrs {
-        if is_named(*x, lent, namespace, name) {
-            return true;
-        }
-    }
-    false
+    attrs
+        .iter()
+        .any(|x| is_named(*x, lent, namespace, name))
 }

@@ -28,8 +28,7 @@ const BLANK: PlacedRow = PlacedRow {
 // The element that waits to be judged, if one does.
 #[derive(Drop)]
 pub struct Waiting {
-    present: bool,
-    start: PlacedRow,
+    start: Option<PlacedRow>,
     decls: Bounded<PlacedRow, EACH>,
     attrs: Bounded<PlacedRow, EACH>,
 }
@@ -40,8 +39,7 @@ impl Waiting {
         ensures { (ts : List Bytes) → waiting_of ts result ≡ [] }
     {
         Waiting {
-            present: false,
-            start: BLANK,
+            start: None,
             decls: Bounded::new(BLANK),
             attrs: Bounded::new(BLANK),
         }
@@ -50,11 +48,8 @@ impl Waiting {
     pub(crate) fn element(&self) -> Option<Element<'_, '_>>
         ensures { (ts : List Bytes) → waiting_of ts self.now ≡ waiting_tag ts result }
     {
-        if !self.present {
-            return None;
-        }
         Some(Element {
-            start: self.start,
+            start: self.start?,
             decls: self.decls.entries(),
             attrs: self.attrs.entries(),
         })
@@ -64,8 +59,7 @@ impl Waiting {
     pub(crate) fn begin(&mut self, start: PlacedRow)
         ensures { (ts : List Bytes) → waiting_of ts self.new ≡ tag (start_of ts start) ∷ [] }
     {
-        self.present = true;
-        self.start = start;
+        self.start = Some(start);
         self.decls.cut(0);
         self.attrs.cut(0);
     }
@@ -88,62 +82,47 @@ impl Waiting {
     pub(crate) fn clear(&mut self)
         ensures { (ts : List Bytes) → waiting_of ts self.new ≡ [] }
     {
-        self.present = false;
+        self.start = None;
     }
 
     pub(crate) fn is_present(&self) -> bool
         ensures { (ts : List Bytes) → result ≡ on_tag (λ (t : Tag). true) (waiting_of ts self.now) }
     {
-        self.present
+        self.start.is_some()
     }
 
     // Whether an element waits that has no attribute yet.
     pub(crate) fn lacks_attrs(&self) -> bool
         ensures { (ts : List Bytes) → result ≡ on_tag (λ (t : Tag). has_no_attrs t.attrs) (waiting_of ts self.now) }
     {
-        if !self.present {
-            return false;
-        }
-        self.attrs.len() == 0
+        self.is_present() && self.attrs.len() == 0
     }
 
     // Whether an element waits that has this prefix.
     pub(crate) fn repeats_prefix(&self, lent: Texts<'_>, prefix: &[u8]) -> bool
         ensures { result ≡ on_tag (λ (t : Tag). has_prefix prefix.now t.decls) (waiting_of (texts lent.entry) self.now) }
     {
-        if !self.present {
-            return false;
-        }
-        has_prefix(self.decls.entries(), lent, prefix)
+        self.is_present() && has_prefix(self.decls.entries(), lent, prefix)
     }
 
     // Whether an element waits that has an attribute of this name.
     pub(crate) fn repeats_attr(&self, lent: Texts<'_>, namespace: &[u8], name: &[u8]) -> bool
         ensures { result ≡ on_tag (λ (t : Tag). has_attr namespace.now name.now t.attrs) (waiting_of (texts lent.entry) self.now) }
     {
-        if !self.present {
-            return false;
-        }
-        has_attr(self.attrs.entries(), lent, namespace, name)
+        self.is_present() && has_attr(self.attrs.entries(), lent, namespace, name)
     }
 
     // Whether an element waits that may have no more declarations.
     pub(crate) fn is_full_of_decls(&self) -> bool
         ensures { (ts : List Bytes) → result ≡ on_tag (λ (t : Tag). nat_le 32 (length t.decls)) (waiting_of ts self.now) }
     {
-        if !self.present {
-            return false;
-        }
-        self.decls.len() >= EACH
+        self.is_present() && self.decls.len() >= EACH
     }
 
     // Whether an element waits that may have no more attributes.
     pub(crate) fn is_full_of_attrs(&self) -> bool
         ensures { (ts : List Bytes) → result ≡ on_tag (λ (t : Tag). nat_le 32 (length t.attrs)) (waiting_of ts self.now) }
     {
-        if !self.present {
-            return false;
-        }
-        self.attrs.len() >= EACH
+        self.is_present() && self.attrs.len() >= EACH
     }
 }

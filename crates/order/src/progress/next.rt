@@ -26,11 +26,10 @@ impl Progress {
         ensures { (ts : List Bytes) (past : List Row) → Follows ts past self.now → result ≡ is_in_order (Some kind) (tokens ts past) }
     {
         match kind {
-            Kind::Start => !self.ended,
+            Kind::Start => !self.has_ended(),
             Kind::Declaration => self.waiting.lacks_attrs(),
             Kind::Attribute => self.waiting.is_present(),
-            Kind::Text => self.depth != 0,
-            Kind::End => self.depth != 0,
+            Kind::Text | Kind::End => self.depth != 0,
         }
     }
 
@@ -40,17 +39,13 @@ impl Progress {
     {
         match kind {
             Kind::Declaration => {
-                if is_forbidden_decl(lent.at(row.a), lent.at(row.b)) {
-                    return true;
-                }
-                self.waiting.repeats_prefix(lent, lent.at(row.a))
+                is_forbidden_decl(lent.at(row.a), lent.at(row.b))
+                    || self.waiting.repeats_prefix(lent, lent.at(row.a))
             }
             Kind::Attribute => self
                 .waiting
                 .repeats_attr(lent, lent.at(row.a), lent.at(row.b)),
-            Kind::Start => false,
-            Kind::Text => false,
-            Kind::End => false,
+            Kind::Start | Kind::Text | Kind::End => false,
         }
     }
 
@@ -62,8 +57,7 @@ impl Progress {
             Kind::Start => self.depth >= LEVELS,
             Kind::Declaration => self.waiting.is_full_of_decls(),
             Kind::Attribute => self.waiting.is_full_of_attrs(),
-            Kind::Text => false,
-            Kind::End => false,
+            Kind::Text | Kind::End => false,
         }
     }
 
@@ -73,19 +67,14 @@ impl Progress {
         ensures kind { IfOk result (λ k. kind_of row.kind ≡ Some k) }
     {
         let place = self.rows;
-        let Some(kind) = well_formed(lent, row) else {
-            return Err(Refusal::BadRow { place });
-        };
+        let kind = well_formed(lent, row).ok_or(Refusal::BadRow { place })?;
         if !self.is_in_order(kind) {
             return Err(Refusal::OutOfOrder { place });
         }
         if self.is_forbidden(kind, lent, row) {
             return Err(Refusal::Forbidden { place });
         }
-        if self.is_at_limit(kind) {
-            return Err(Refusal::TooMany { place });
-        }
-        if self.rows >= ROWS {
+        if self.is_at_limit(kind) || self.rows >= ROWS {
             return Err(Refusal::TooMany { place });
         }
         Ok(kind)
