@@ -30,8 +30,7 @@ fn is_prefix_understood(prefix: &[u8], lent: Texts<'_>, u: &Understood, bindings
 pub fn all_understood(value: &[u8], lent: Texts<'_>, u: &Understood, bindings: &[Bound]) -> bool
     ensures { (knows : Knows) → Knowing (texts lent.entry) knows u.now → result ≡ all_understood knows (named (bindings_of (texts lent.entry) bindings.now) (items value.now)) }
 {
-    let mut list = Items::of(value);
-    while let Some(item) = list.next() {
+    for item in Items::of(value) {
         if !is_prefix_understood(item, lent, u, bindings) {
             return false;
         }

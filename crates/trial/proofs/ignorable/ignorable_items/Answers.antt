@@ -13,7 +13,7 @@ unfolding ignorable_items
 returns-in_err-ignorable_item c =
     let bindings = bindings_of (texts c.args.lent) c.args.bindings.now in
     let entries = length (held c.loop-item.marks) in
-    let t = item_turn (ignorable_item bindings c.args.place entries) (ignorable_items bindings c.args.place entries) _ c.in-Some.item.now _ _ _ refl c.loop-item.invariant.0 c.in-Some.ensures.item in
+    let t = item_turn (ignorable_item bindings c.args.place entries) (ignorable_items bindings c.args.place entries) _ c.in-Some.item.now _ _ _ refl c.loop-item.invariant.0 c.in-Some.ensures.steps.item in
     search rules
 
 pub loop-item-preserved : goal.loop-item-preserved
@@ -21,16 +21,16 @@ unfolding ignorable_items named
 loop-item-preserved c =
     let bindings = bindings_of (texts c.args.lent) c.args.bindings.now in
     let entries = length (held c.loop-item.marks) in
-    let t = item_turn (ignorable_item bindings c.args.place entries) (ignorable_items bindings c.args.place entries) _ c.in-Some.item.now _ _ _ refl c.loop-item.invariant.0 c.in-Some.ensures.item in
+    let t = item_turn (ignorable_item bindings c.args.place entries) (ignorable_items bindings c.args.place entries) _ c.in-Some.item.now _ _ _ refl c.loop-item.invariant.0 c.in-Some.ensures.steps.item in
     let f = c.in_ok-ignorable_item.ensures.answer in
     let n = c.in_ok-ignorable_item.ensures.counted in (
       search rules,
-      entered_turn (bound bindings) (named bindings) c.in-Some.item.now _ _ _ _ _ refl c.loop-item.invariant.1 c.in-Some.ensures.item c.in_ok-ignorable_item.ensures.marked,
+      entered_turn (bound bindings) (named bindings) c.in-Some.item.now _ _ _ _ _ refl c.loop-item.invariant.1 c.in-Some.ensures.steps.item c.in_ok-ignorable_item.ensures.marked,
     )
 
 pub returns : goal.returns
 unfolding ignorable_items named
 returns c =
     let bindings = bindings_of (texts c.args.lent) c.args.bindings.now in
-    let e = c.in_default.ensures.item in
+    let e = c.in-None.ensures.steps.item.0 in
     record { answer = search rules; marked = entered_all (bound bindings) (named bindings) _ _ _ refl c.loop-item.invariant.1 e }

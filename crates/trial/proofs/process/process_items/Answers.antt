@@ -20,18 +20,18 @@ returns-in_err-space c =
     let bindings = bindings_of (texts c.args.lent) c.args.bindings.now in
     let ignorables = ignorables_of (texts c.args.lent) c.args.marks.now in
     let entries = length (held c.loop-item.pairs) in
-    let t = item_turn (process_item bindings ignorables c.args.place entries) (process_items bindings ignorables c.args.place entries) _ c.in-Some.item.now _ _ _ refl c.loop-item.invariant.0 c.in-Some.ensures.item in
+    let t = item_turn (process_item bindings ignorables c.args.place entries) (process_items bindings ignorables c.args.place entries) _ c.in-Some.item.now _ _ _ refl c.loop-item.invariant.0 c.in-Some.ensures.steps.item in
     let p = first-process bindings ignorables c.args.place entries c.in-Some.item.now in
     search rules
 
 -- the value around the item's local name
 around : (c : After-left)
     → c.at-value.result.now
-    ≡ (c.loop-item.invariant.2.0 ++ (c.in-Some.ensures.place.0 ++ c.split.ensures.place.0)) ++ (c.split.result.1.now ++ unread c.next.new.self)
+    ≡ (c.loop-item.invariant.2.0 ++ (c.in-Some.ensures.steps.place.0 ++ c.split.ensures.place.0)) ++ (c.split.result.1.now ++ unread c.next.new.self)
 around c =
     around_local c.at-value.result.now (unread c.loop-item.list) c.in-Some.item.now (unread c.next.new.self) c.split.result.1.now
-    c.loop-item.invariant.2.0 c.in-Some.ensures.place.0 c.split.ensures.place.0
-    (c.at-value.ensures ∙ c.loop-item.invariant.2.1) c.in-Some.ensures.place.1 c.split.ensures.place.1
+    c.loop-item.invariant.2.0 c.in-Some.ensures.steps.place.0 c.split.ensures.place.0
+    (c.at-value.ensures ∙ c.loop-item.invariant.2.1) c.in-Some.ensures.steps.place.1 c.split.ensures.place.1
 
 pub overflow_sub-to : goal.overflow_sub-to
 overflow_sub-to c = omega (arith, simp length-append at (ap length (around c)))
@@ -45,7 +45,7 @@ returns-then-not-add c =
     let bindings = bindings_of (texts c.args.lent) c.args.bindings.now in
     let ignorables = ignorables_of (texts c.args.lent) c.args.marks.now in
     let entries = length (held c.loop-item.pairs) in
-    let t = item_turn (process_item bindings ignorables c.args.place entries) (process_items bindings ignorables c.args.place entries) _ c.in-Some.item.now _ _ _ refl c.loop-item.invariant.0 c.in-Some.ensures.item in
+    let t = item_turn (process_item bindings ignorables c.args.place entries) (process_items bindings ignorables c.args.place entries) _ c.in-Some.item.now _ _ _ refl c.loop-item.invariant.0 c.in-Some.ensures.steps.item in
     let p = first-process bindings ignorables c.args.place entries c.in-Some.item.now in
     let r = c.if-not-add.ensures.room in
     let f = c.in_ok-space.ensures.answer in
@@ -58,7 +58,7 @@ loop-item-preserved c =
     let bindings = bindings_of lent c.args.bindings.now in
     let ignorables = ignorables_of lent c.args.marks.now in
     let entries = length (held c.loop-item.pairs) in
-    let t = item_turn (process_item bindings ignorables c.args.place entries) (process_items bindings ignorables c.args.place entries) _ c.in-Some.item.now _ _ _ refl c.loop-item.invariant.0 c.in-Some.ensures.item in
+    let t = item_turn (process_item bindings ignorables c.args.place entries) (process_items bindings ignorables c.args.place entries) _ c.in-Some.item.now _ _ _ refl c.loop-item.invariant.0 c.in-Some.ensures.steps.item in
     let p = first-process bindings ignorables c.args.place entries c.in-Some.item.now in
     let r = c.if-not-add.ensures.room in
     let h = c.if-not-add.ensures.held in
@@ -66,16 +66,16 @@ loop-item-preserved c =
     let n = counted _ _ _ h in
     let l = placed c.at-value.result.now _ _ c.split.result.1.now (unread c.next.new.self) c.at-value.ensures (around (at-loop-item-preserved c).After-left) in (
       search rules,
-      entered_turn (λ (i : Bytes). option_map (λ (ns : Bytes). (ns, local_part i)) (bound bindings (prefix_part i))) (named_pairs bindings) c.in-Some.item.now _ _ _ _ _ refl c.loop-item.invariant.1 c.in-Some.ensures.item
+      entered_turn (λ (i : Bytes). option_map (λ (ns : Bytes). (ns, local_part i)) (bound bindings (prefix_part i))) (named_pairs bindings) c.in-Some.item.now _ _ _ _ _ refl c.loop-item.invariant.1 c.in-Some.ensures.steps.item
           (pair_entered lent bindings c.in-Some.item.now _ _ _ h c.in_ok-space.ensures.space (simp c.left.ensures (l ∙ c.split.ensures.local))),
-      (_, behind_item _ (unread c.loop-item.list) c.in-Some.item.now (unread c.next.new.self) c.loop-item.invariant.2.0 c.in-Some.ensures.place.0 c.loop-item.invariant.2.1 c.in-Some.ensures.place.1),
+      (_, behind_item _ (unread c.loop-item.list) c.in-Some.item.now (unread c.next.new.self) c.loop-item.invariant.2.0 c.in-Some.ensures.steps.place.0 c.loop-item.invariant.2.1 c.in-Some.ensures.steps.place.1),
     )
 
 pub returns : goal.returns
 unfolding process_items named_pairs
 returns c =
     let bindings = bindings_of (texts c.args.lent) c.args.bindings.now in
-    let e = c.in_default.ensures.item in
+    let e = c.in_default.ensures.steps.item.0 in
     record {
       answer = search rules;
       entered = entered_all (λ (i : Bytes). option_map (λ (ns : Bytes). (ns, local_part i)) (bound bindings (prefix_part i))) (named_pairs bindings) _ _ _ refl c.loop-item.invariant.1 e;

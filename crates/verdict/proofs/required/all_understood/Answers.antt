@@ -9,14 +9,14 @@ use Rattle.verdict.proofs.required.all_understood.Goals as goal
 pub returns-then-not-is_prefix_understood : goal.returns-then-not-is_prefix_understood
 returns-then-not-is_prefix_understood c =
     λ knows k.
-    let t = item_turn knows (bindings_of (texts c.args.lent) c.args.bindings.now) c.in-Some.item.now _ _ _ (c.loop-item.invariant knows k) c.in-Some.ensures.item in
+    let t = item_turn knows (bindings_of (texts c.args.lent) c.args.bindings.now) c.in-Some.item.now _ _ _ (c.loop-item.invariant knows k) c.in-Some.ensures.steps.item in
     let p = c.if-not-is_prefix_understood.ensures knows k in
     search rules
 
 pub loop-item-preserved : goal.loop-item-preserved
 loop-item-preserved c =
     λ knows k.
-    let t = item_turn knows (bindings_of (texts c.args.lent) c.args.bindings.now) c.in-Some.item.now _ _ _ (c.loop-item.invariant knows k) c.in-Some.ensures.item in
+    let t = item_turn knows (bindings_of (texts c.args.lent) c.args.bindings.now) c.in-Some.item.now _ _ _ (c.loop-item.invariant knows k) c.in-Some.ensures.steps.item in
     let p = c.if-not-is_prefix_understood.ensures knows k in
     search rules
 
@@ -25,5 +25,5 @@ unfolding named all_understood
 returns c =
     λ knows k.
     let i = c.loop-item.invariant knows k in
-    let e = c.in_default.ensures.item in
+    let e = c.in-None.ensures.steps.item.0 in
     search rules

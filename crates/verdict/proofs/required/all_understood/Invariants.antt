@@ -1,4 +1,4 @@
-use Rattle.std.proofs.Common.{◌≡◌, length}
+use Rattle.std.proofs.Common.{◌≡◌}
 use Rattle.file.specs.Texts.{texts}
 use Rattle.items.specs.Items.{items}
 use Rattle.items.specs.Unread.{unread}
@@ -13,8 +13,5 @@ use Rattle.verdict.proofs.required.all_understood.Given as goal
 abbrev pub invariant-loop-item : goal.invariant-loop-item
 invariant-loop-item l =
     (knows : Knows) → Knowing (texts l.lent) knows l.u
-    → all_understood knows (named (bindings_of (texts l.lent) l.bindings) (items (unread l.list)))
+    → all_understood knows (named (bindings_of (texts l.lent) l.bindings) (items (unread l.item-iterator)))
     ≡ all_understood knows (named (bindings_of (texts l.lent) l.bindings) (items l.value))
-
-abbrev pub decreases-loop-item : goal.decreases-loop-item
-decreases-loop-item l = length (unread l.list)
