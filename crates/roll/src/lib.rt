@@ -1,19 +1,22 @@
 // A list of bounded length, kept in storage that the caller lends.
-#![tactic(auto)]
+#![tactic(auto, unfolding(crate::specs::Rolls::items, crate::specs::Rolls::slot_count))]
 
-ghost use Rattle.std.specs.Prelude.{◌≡◌, ◌^◌, ◌<◌, [], ◌∷◌, ◌++◌, length, take, if◌then◌else◌, nat_lt, slice_set};
+ghost use Rattle.std.specs.Prelude.{◌≡◌, ◌^◌, ◌<◌, ◌≤◌, [], ◌∷◌, ◌++◌, length, take, if◌then◌else◌, nat_lt, slice_set};
 ghost use Rattle.std.specs.List.{slice_get};
-ghost use Rattle.roll.specs.Rolls.{items, slot_count};
 
-// Means the list of its first `len` slots, or of all where `len` is more; slots behind them may hold anything.
-// It has no invariant, so it may lie in any struct.
+// Means the list of its first `len` slots; slots behind them may hold anything.
+// Kept: beside `Bounded` in `scope`, whose entries lie in an array of its own. One type for both would want a trait over
+// the storage with two impls, which is longer than what the two share.
 #[derive(Drop)]
 pub struct Roll<'a, T> {
     slots: &'a mut [T],
     len: usize,
+    ghost within: { len ≤ length slots.now },
 }
 
 impl<'a, T: Copy> Roll<'a, T> {
+    ghost use Rattle.roll.specs.Rolls.{items, slot_count};
+
     pub fn new(slots: &'a mut [T]) -> Roll<'a, T>
         ensures items { items result ≡ [] }
         ensures slots { slot_count result ≡ length slots.old }
@@ -24,7 +27,7 @@ impl<'a, T: Copy> Roll<'a, T> {
     pub fn len(&self) -> usize
         ensures { result ≡ length (items self.now) }
     {
-        self.len.min(self.slots.len())
+        self.as_slice().len()
     }
 
     pub fn capacity(&self) -> usize
@@ -41,15 +44,17 @@ impl<'a, T: Copy> Roll<'a, T> {
         self.len < self.slots.len()
     }
 
+    pub fn as_slice(&self) -> &[T]
+        ensures { result.now ≡ items self.now }
+    {
+        &self.slots[..self.len]
+    }
+
     // The item at a number, or nothing past the last.
     pub fn get(&self, i: usize) -> Option<T>
         ensures { result ≡ slice_get (items self.now) i }
     {
-        if i >= self.len() {
-            return None;
-        }
-        let slots: &[T] = &*self.slots;
-        Some(slots[i])
+        self.as_slice().get(i).copied()
     }
 
     // Adds an item at the end; false, and nothing is changed, where no slot is left.
@@ -58,13 +63,12 @@ impl<'a, T: Copy> Roll<'a, T> {
         ensures items { items self.new ≡ (if result then items self.old ++ item ∷ [] else items self.old) }
         ensures slots { slot_count self.new ≡ slot_count self.old }
     {
-        if self.len < self.slots.len() {
-            self.slots[self.len] = item;
-            self.len += 1;
-            true
-        } else {
-            false
+        if !self.has_room() {
+            return false;
         }
+        self.slots[self.len] = item;
+        self.len += 1;
+        true
     }
 
     // Keeps the first `n` items, or all where there are no more.
@@ -72,9 +76,7 @@ impl<'a, T: Copy> Roll<'a, T> {
         ensures items { items self.new ≡ take n (items self.old) }
         ensures slots { slot_count self.new ≡ slot_count self.old }
     {
-        if n < self.len {
-            self.len = n;
-        }
+        self.len = self.len.min(n);
     }
 
     // Writes over an item; a number past the last is left alone.
@@ -82,7 +84,7 @@ impl<'a, T: Copy> Roll<'a, T> {
         ensures items { items self.new ≡ slice_set (items self.old) i item }
         ensures slots { slot_count self.new ≡ slot_count self.old }
     {
-        if i < self.len() {
+        if i < self.len {
             self.slots[i] = item;
         }
     }
