@@ -1,4 +1,4 @@
-ghost use Rattle.std.specs.Prelude.{◌≡◌, length, is_some, IfSome, Some, nat_lt};
+ghost use Rattle.std.specs.Prelude.{◌≡◌, is_some, IfSome, Some};
 ghost use Rattle.record.specs.Rows.{kind_of};
 ghost use Rattle.file.specs.Texts.{texts};
 ghost use Rattle.rules.specs.Order.{is_shaped, is_well_formed, is_forbidden_decl};
@@ -20,12 +20,6 @@ fn is_shaped(kind: Kind, row: Row) -> bool
     }
 }
 
-fn names_text(lent: Texts<'_>, n: u32) -> bool
-    ensures { result ≡ nat_lt n (length (texts lent.entry)) }
-{
-    (n as usize) < lent.count()
-}
-
 // The kind of a row that is well formed.
 pub(crate) fn well_formed(lent: Texts<'_>, row: Row) -> Option<Kind>
     ensures formed { is_some result ≡ is_well_formed (texts lent.entry) row }
@@ -35,13 +29,13 @@ pub(crate) fn well_formed(lent: Texts<'_>, row: Row) -> Option<Kind>
     if !is_shaped(kind, row) {
         return None;
     }
-    if !names_text(lent, row.a) {
+    if !lent.has(row.a) {
         return None;
     }
-    if !names_text(lent, row.b) {
+    if !lent.has(row.b) {
         return None;
     }
-    if !names_text(lent, row.c) {
+    if !lent.has(row.c) {
         return None;
     }
     Some(kind)

@@ -10,17 +10,17 @@ pub returns-then-not-is_shaped : goal.returns-then-not-is_shaped
 unfolding is_well_formed
 returns-then-not-is_shaped c = search rules
 
-pub returns-then-not-names_text : goal.returns-then-not-names_text
+pub returns-then-not-has : goal.returns-then-not-has
 unfolding is_well_formed
-returns-then-not-names_text c = search rules
+returns-then-not-has c = search rules
 
-pub returns-then-not-names_text-2 : goal.returns-then-not-names_text-2
+pub returns-then-not-has-2 : goal.returns-then-not-has-2
 unfolding is_well_formed
-returns-then-not-names_text-2 c = search rules
+returns-then-not-has-2 c = search rules
 
-pub returns-then-not-names_text-3 : goal.returns-then-not-names_text-3
+pub returns-then-not-has-3 : goal.returns-then-not-has-3
 unfolding is_well_formed
-returns-then-not-names_text-3 c = search rules
+returns-then-not-has-3 c = search rules
 
 pub returns : goal.returns
 unfolding is_well_formed
