@@ -4,8 +4,7 @@ ghost use Rattle.card.specs.Cards.{IsRight, opened_card};
 
 use crate::extensions::Extensions;
 use crate::known::{Family, NameList};
-use crate::right::Wrong;
-use crate::rows::first_row;
+use crate::right::is_right;
 use file::checked::File;
 use knowledge::Either;
 use record::refusal::Refusal;
@@ -25,7 +24,8 @@ impl<'a> Card<'a> {
         ensures { card_answer result ≡ opened_card bytes.now }
     {
         let file = File::check(bytes)?;
-        if let Some(row) = first_row(&file, &Wrong) {
+        let texts = file.texts();
+        if let Some(row) = file.rows().position(|row| !is_right(texts, row)) {
             return Err(Refusal::BadCardRow { row: row as u32 });
         }
         Ok(Card { file })

@@ -3,6 +3,6 @@
 
 pub mod checked;
 pub mod extensions;
+pub mod kind;
 pub mod known;
 mod right;
-pub mod rows;

@@ -1,17 +1,23 @@
 -- The first number that passes a test.
-use Rattle.std.proofs.Common.{◌≡◌, ℕ, zero, suc, ◌+◌, ◌-◌, ◌<◌, ◌≤◌, Bool, true, false, cond, not, is_some, Some, None, sym, refl, ap, ◌∙◌, inl, inr, arith}
+use Rattle.std.proofs.Common.{◌≡◌, ℕ, zero, suc, ◌+◌, ◌<◌, ◌≤◌, Bool, true, false, cond, not, ◌||◌, is_some, Some, sym, refl, ap, ◌∙◌, inl, inr, arith}
 use Rattle.std.proofs.lemmas.Bool.{cases_eq, true≢false, false≢true}
+use Rattle.std.specs.List.{find, list_any, range_with_len}
 use Rattle.file.specs.Form.{first_from, none_of}
 
 module _ (test : ℕ → Bool) where
-  -- a loop's turn at i
-  pub first_step : (i n : ℕ) → i < n → first_from test i (n - i) ≡ cond (test i) (Some i) (first_from test (i + 1) (n - (i + 1)))
+  -- a search of the numbers from k on
+  pub first_from-find : (k n : ℕ) → first_from test k n ≡ find test (range_with_len k n)
   unfolding first_from
-  first_step i n lt = let e : n - i ≡ suc (n - (i + 1)) = omega arith in rw e
+  first_from-find k zero = refl
+  first_from-find k (suc n) = ap (cond (test k) (Some k)) (first_from-find (k + 1) n)
 
-  pub first-end : (i n : ℕ) → n ≤ i → first_from test i (n - i) ≡ None
+  -- whether one of them passes
+  pub not_none_from-list_any : (k n : ℕ) → not (not (is_some (first_from test k n))) ≡ list_any test (range_with_len k n)
   unfolding first_from
-  first-end i n le = let e : n - i ≡ 0 = omega arith in rw e
+  not_none_from-list_any k zero = refl
+  not_none_from-list_any k (suc n) =
+      elim (test k) as (λ v. not (not (is_some (cond v (Some k) (first_from test (k + 1) n)))) ≡ (v || list_any test (range_with_len (k + 1) n)))
+      [ true ↦ refl | false ↦ not_none_from-list_any (k + 1) n ]
 
   none_from : (k n : ℕ) → is_some (first_from test k n) ≡ false → (j : ℕ) → k ≤ j → j < k + n → test j ≡ false
   unfolding first_from

@@ -2,5 +2,5 @@ pub mod Counted
 pub mod Firsts
 pub mod Opens
 pub mod Parts
-pub mod Rows
+pub mod Tables
 pub mod Sound

@@ -8,7 +8,7 @@ use Rattle.text.specs.Bytes.{Bytes}
 use Rattle.file.specs.Form.{pair_count, none_of, repeated, text_of, texts_of, text_at, Distinct}
 use Rattle.file.specs.Texts.{texts}
 use Rattle.file.specs.declared.texts.Texts.{Texts}
-use Rattle.file.proofs.Counted.{counted-length, counted_nth, counted-past}
+use Rattle.file.proofs.Counted.{counted-length, counted_nth}
 use Rattle.file.proofs.Firsts.{none-at}
 
 same_refl : (xs : Bytes) → bytes_eq xs xs ≡ true
@@ -53,10 +53,6 @@ module _ (pairs bytes : Bytes) where
   pub text_nth : (n : ℕ) → n < pair_count pairs → slice_get (texts_of pairs bytes) n ≡ Some (text_of pairs bytes n)
   unfolding texts_of
   text_nth n lt = counted_nth (text_of pairs bytes) (pair_count pairs) n lt
-
-  pub text-none : (n : ℕ) → pair_count pairs ≤ n → slice_get (texts_of pairs bytes) n ≡ None
-  unfolding texts_of
-  text-none n le = counted-past (text_of pairs bytes) (pair_count pairs) n le
 
   pub distinct_texts : none_of (repeated pairs bytes) (pair_count pairs) ≡ true → Distinct (texts_of pairs bytes)
   unfolding text_at

@@ -1,3 +1,4 @@
 pub mod Form
 pub mod Texts
+pub mod Rows
 pub mod Files

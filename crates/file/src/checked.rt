@@ -1,10 +1,12 @@
-ghost use Rattle.std.specs.Prelude.{◌≡◌, ◌+◌, ◌*◌, ◌≤◌, length, IfOk};
+ghost use Rattle.std.specs.Prelude.{◌≡◌, ◌≤◌, length, IfOk};
 ghost use Rattle.std.specs.List.{slice_get};
-ghost use Rattle.file.specs.Form.{within_limits, opened, row_of, Distinct};
+ghost use Rattle.file.specs.Form.{within_limits, opened, Distinct};
 ghost use Rattle.file.specs.Texts.{texts};
+ghost use Rattle.file.specs.Rows.{rows_left};
 ghost use Rattle.file.specs.Files.{held, answer};
 
 use crate::number::number_at;
+use crate::rows::{Rows, row_at};
 use crate::texts::Texts;
 use record::refusal::Refusal;
 use record::row::Row;
@@ -16,23 +18,11 @@ pub struct File<'a> {
     rows: &'a [u8],
 }
 
+#[tactic(auto, unfolding(crate::specs::Form::within_limits))]
 fn within_limits(texts: usize, rows: usize, bytes: usize) -> bool
     ensures { result ≡ within_limits texts rows bytes }
 {
-    1 <= texts && texts <= 1024 && rows <= 2048 && bytes <= 16384
-}
-
-fn row_at(rows: &[u8], i: usize) -> Row
-    requires { 16 * i + 16 ≤ length rows.now }
-    ensures { result ≡ row_of rows.now i }
-{
-    let at = 16 * i;
-    Row {
-        kind: number_at(rows, at),
-        a: number_at(rows, at + 4),
-        b: number_at(rows, at + 8),
-        c: number_at(rows, at + 12),
-    }
+    (1..=1024).contains(&texts) && rows <= 2048 && bytes <= 16384
 }
 
 impl<'a> File<'a> {
@@ -74,13 +64,17 @@ impl<'a> File<'a> {
         self.rows.len() / 16
     }
 
+    // The rows in order.
+    pub fn rows(&self) -> Rows<'a>
+        ensures { rows_left result ≡ (held self.now).rows }
+    {
+        Rows { left: self.rows }
+    }
+
     // The row at a number, or nothing past the last.
     pub fn row(&self, i: usize) -> Option<Row>
         ensures { result ≡ slice_get (held self.now).rows i }
     {
-        if i >= self.row_count() {
-            return None;
-        }
-        Some(row_at(self.rows, i))
+        (i < self.row_count()).then(|| row_at(self.rows, i))
     }
 }

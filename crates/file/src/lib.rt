@@ -4,4 +4,5 @@
 pub mod checked;
 mod number;
 mod pairs;
+pub mod rows;
 pub mod texts;

@@ -36,6 +36,7 @@ pub(crate) fn text_of<'a>(pairs: &[u8], bytes: &'a [u8], k: usize) -> &'a [u8]
     &bytes[from..to]
 }
 
+#[tactic(auto, unfolding(crate::specs::Form::misplaced))]
 fn is_misplaced(pairs: &[u8], limit: usize, k: usize) -> bool
     requires { k < pair_count pairs.now }
     ensures { result ≡ misplaced pairs.now limit k }
@@ -51,12 +52,9 @@ pub(crate) fn first_misplaced(pairs: &[u8], limit: usize) -> Option<u32>
     requires { pair_count pairs.now ≤ 1024 }
     ensures { result ≡ first_from (misplaced pairs.now limit) 0 (pair_count pairs.now) }
 {
-    for k in 0..pair_count(pairs) {
-        if is_misplaced(pairs, limit, k) {
-            return Some(k as u32);
-        }
-    }
-    None
+    (0..pair_count(pairs))
+        .find(|&k| is_misplaced(pairs, limit, k))
+        .map(|k| k as u32)
 }
 
 // Whether an earlier pair has the same bytes. Texts of other lengths are told apart without a look at their bytes.
@@ -65,12 +63,7 @@ fn is_repeated(pairs: &[u8], bytes: &[u8], k: usize) -> bool
     ensures { result ≡ repeated pairs.now bytes.now k }
 {
     let text = text_of(pairs, bytes, k);
-    for j in 0..k {
-        if same(text_of(pairs, bytes, j), text) {
-            return true;
-        }
-    }
-    false
+    (0..k).any(|j| same(text_of(pairs, bytes, j), text))
 }
 
 // The first pair that has the bytes of an earlier one.
@@ -78,10 +71,7 @@ pub(crate) fn first_repeated(pairs: &[u8], bytes: &[u8]) -> Option<u32>
     requires { pair_count pairs.now ≤ 1024 }
     ensures { result ≡ first_from (repeated pairs.now bytes.now) 0 (pair_count pairs.now) }
 {
-    for k in 0..pair_count(pairs) {
-        if is_repeated(pairs, bytes, k) {
-            return Some(k as u32);
-        }
-    }
-    None
+    (0..pair_count(pairs))
+        .find(|&k| is_repeated(pairs, bytes, k))
+        .map(|k| k as u32)
 }

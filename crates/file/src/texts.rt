@@ -1,4 +1,4 @@
-ghost use Rattle.std.specs.Prelude.{◌≡◌, ◌≤◌, length, IfOk};
+ghost use Rattle.std.specs.Prelude.{◌≡◌, ◌≤◌, length, IfOk, nat_lt};
 ghost use Rattle.std.specs.List.{slice_get};
 ghost use Rattle.std.specs.Option.{option_map};
 ghost use Rattle.file.specs.Form.{pair_count, read_texts, text_at, Distinct};
@@ -38,24 +38,25 @@ impl<'a> Texts<'a> {
         pair_count(self.pairs)
     }
 
+    // Whether the file has a text of this number.
+    pub fn has(self, n: u32) -> bool
+        ensures { result ≡ nat_lt n (length (texts self.entry)) }
+    {
+        (n as usize) < self.count()
+    }
+
     // The text of a number, or nothing where the file has none.
     pub fn get(self, n: u32) -> Option<&'a [u8]>
         ensures { option_map (λ x. x.now) result ≡ slice_get (texts self.entry) n }
     {
-        let k = n as usize;
-        if k >= self.count() {
-            return None;
-        }
-        Some(text_of(self.pairs, self.bytes, k))
+        self.has(n)
+            .then(|| text_of(self.pairs, self.bytes, n as usize))
     }
 
     // The text of a number, the empty one where the file has none.
     pub fn at(self, n: u32) -> &'a [u8]
         ensures { result.now ≡ text_at (texts self.entry) n }
     {
-        match self.get(n) {
-            Some(text) => text,
-            None => b"",
-        }
+        self.get(n).unwrap_or(b"")
     }
 }

@@ -1,4 +1,4 @@
-ghost use Rattle.std.specs.Prelude.{◌≡◌, length, is_some, IfSome, Some, nat_lt};
+ghost use Rattle.std.specs.Prelude.{◌≡◌, is_some, IfSome, Some};
 ghost use Rattle.record.specs.Rows.{kind_of};
 ghost use Rattle.file.specs.Texts.{texts};
 ghost use Rattle.rules.specs.Order.{is_shaped, is_well_formed, is_forbidden_decl};
@@ -20,27 +20,19 @@ fn is_shaped(kind: Kind, row: Row) -> bool
     }
 }
 
-fn names_text(lent: Texts<'_>, n: u32) -> bool
-    ensures { result ≡ nat_lt n (length (texts lent.entry)) }
-{
-    (n as usize) < lent.count()
-}
-
 // The kind of a row that is well formed.
 pub(crate) fn well_formed(lent: Texts<'_>, row: Row) -> Option<Kind>
     ensures formed { is_some result ≡ is_well_formed (texts lent.entry) row }
     ensures kind { IfSome result (λ k. kind_of row.kind ≡ Some k) }
 {
     let kind = Kind::try_from(row.kind).ok()?;
-    let formed = is_shaped(kind, row)
-        && names_text(lent, row.a)
-        && names_text(lent, row.b)
-        && names_text(lent, row.c);
+    let formed =
+        is_shaped(kind, row) && lent.has(row.a) && lent.has(row.b) && lent.has(row.c);
     formed.then_some(kind)
 }
 
-#[tactic(auto, using(items::proofs::Fronts::empty_length), unfolding(rules::specs::Order::is_forbidden_decl))]
 // The prefix `xml`, or a prefix other than the default for no namespace.
+#[tactic(auto, using(items::proofs::Fronts::empty_length), unfolding(rules::specs::Order::is_forbidden_decl))]
 pub(crate) fn is_forbidden_decl(prefix: &[u8], namespace: &[u8]) -> bool
     ensures { result ≡ is_forbidden_decl prefix.now namespace.now }
 {

@@ -42,24 +42,28 @@ pub enum McAttribute {
     MustUnderstand,
 }
 
+#[tactic(auto, unfolding(crate::specs::Names::in_mc, crate::specs::Names::mc_namespace))]
 pub fn is_mc(namespace: &[u8]) -> bool
     ensures { result ≡ in_mc namespace.now }
 {
     same(namespace, MC)
 }
 
+#[tactic(auto, unfolding(crate::specs::Names::in_xml, crate::specs::Names::xml_namespace))]
 pub fn is_xml(namespace: &[u8]) -> bool
     ensures { result ≡ in_xml namespace.now }
 {
     same(namespace, XML)
 }
 
+#[tactic(auto, unfolding(crate::specs::Names::is_xml_prefix))]
 pub fn is_xml_prefix(prefix: &[u8]) -> bool
     ensures { result ≡ is_xml_prefix prefix.now }
 {
     same(prefix, XML_PREFIX)
 }
 
+#[tactic(auto, unfolding(crate::specs::Names::is_requires))]
 pub fn is_requires(local: &[u8]) -> bool
     ensures { result ≡ is_requires local.now }
 {
@@ -67,46 +71,41 @@ pub fn is_requires(local: &[u8]) -> bool
 }
 
 // The element of markup compatibility with this local name.
+#[tactic(auto, unfolding(crate::specs::Names::element_named))]
 pub fn mc_element(local: &[u8]) -> Option<McElement>
     ensures { result ≡ element_named local.now }
 {
     if same(local, ALTERNATE_CONTENT) {
-        return Some(McElement::AlternateContent);
+        Some(McElement::AlternateContent)
+    } else if same(local, CHOICE) {
+        Some(McElement::Choice)
+    } else if same(local, FALLBACK) {
+        Some(McElement::Fallback)
+    } else {
+        None
     }
-    if same(local, CHOICE) {
-        return Some(McElement::Choice);
-    }
-    if same(local, FALLBACK) {
-        return Some(McElement::Fallback);
-    }
-    None
 }
 
 // The attribute of markup compatibility with this local name.
+#[tactic(auto, unfolding(crate::specs::Names::attribute_named))]
 pub fn mc_attribute(local: &[u8]) -> Option<McAttribute>
     ensures { result ≡ attribute_named local.now }
 {
     if same(local, IGNORABLE) {
-        return Some(McAttribute::Ignorable);
+        Some(McAttribute::Ignorable)
+    } else if same(local, PROCESS_CONTENT) {
+        Some(McAttribute::ProcessContent)
+    } else if same(local, MUST_UNDERSTAND) {
+        Some(McAttribute::MustUnderstand)
+    } else {
+        None
     }
-    if same(local, PROCESS_CONTENT) {
-        return Some(McAttribute::ProcessContent);
-    }
-    if same(local, MUST_UNDERSTAND) {
-        return Some(McAttribute::MustUnderstand);
-    }
-    None
 }
 
 // Whether an attribute of the XML namespace holds for what is inside its element too.
+#[tactic(auto, unfolding(crate::specs::Names::is_inherited))]
 pub fn is_inherited(local: &[u8]) -> bool
     ensures { result ≡ is_inherited local.now }
 {
-    if same(local, b"base") {
-        return true;
-    }
-    if same(local, b"lang") {
-        return true;
-    }
-    same(local, b"space")
+    same(local, b"base") || same(local, b"lang") || same(local, b"space")
 }

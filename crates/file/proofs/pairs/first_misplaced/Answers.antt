@@ -1,13 +1,14 @@
-use Rattle.std.proofs.Common.{arith, rules}
+use Rattle.std.proofs.Common.{◌≡◌, rules, arith, sym, ◌∙◌}
+use Rattle.std.specs.List.{find, range_with_len}
+use Rattle.std.proofs.lemmas.Iterator.{YieldsList-from_range}
+use Rattle.std.proofs.lemmas.Iterator.Search.{find_from_yields_List}
 use Rattle.file.specs.Form.{pair_count, misplaced}
-use Rattle.file.proofs.Firsts.{first_step, first-end}
+use Rattle.file.proofs.Firsts.{first_from-find}
 use Rattle.file.proofs.pairs.first_misplaced.Goals as goal
 
-pub returns-then-is_misplaced : goal.returns-then-is_misplaced
-returns-then-is_misplaced c = let s = first_step (misplaced c.args.pairs.now c.args.limit) c.loop-k.k (pair_count c.args.pairs.now) (omega arith) in search rules
-
-pub loop-k-preserved : goal.loop-k-preserved
-loop-k-preserved c = let s = first_step (misplaced c.args.pairs.now c.args.limit) c.loop-k.k (pair_count c.args.pairs.now) (omega arith) in search rules
-
 pub returns : goal.returns
-returns c = let s = first-end (misplaced c.args.pairs.now c.args.limit) c.loop-k.k (pair_count c.args.pairs.now) (omega arith) in search rules
+returns c =
+    let n = pair_count c.args.pairs.now in
+    let found = find_from_yields_List (misplaced c.args.pairs.now c.args.limit) _ _ c.find.result c.find.ensures.ran (YieldsList-from_range 0 n n (cc) (omega arith)) (λ x b q k. search rules) in
+    let same : c.map.result ≡ find (misplaced c.args.pairs.now c.args.limit) (range_with_len 0 n) = grind arith in
+    same ∙ sym (first_from-find (misplaced c.args.pairs.now c.args.limit) 0 n)

@@ -1,20 +1,13 @@
-use Rattle.std.proofs.Common.{ℕ, Bool, arith, rules}
+use Rattle.std.proofs.Common.{rules, arith, sym, ◌∙◌}
 use Rattle.std.specs.Str.{bytes_eq}
-use Rattle.text.specs.Bytes.{Bytes}
+use Rattle.std.proofs.lemmas.Iterator.{YieldsList-from_range}
+use Rattle.std.proofs.lemmas.Iterator.Search.{any_from_yields_List}
 use Rattle.file.specs.Form.{text_of, repeated}
-use Rattle.file.proofs.Firsts.{first_step, first-end}
+use Rattle.file.proofs.Firsts.{not_none_from-list_any}
 use Rattle.file.proofs.pairs.is_repeated.Goals as goal
-
-abbrev alike : Bytes → Bytes → ℕ → ℕ → Bool
-alike pairs bytes k j = bytes_eq (text_of pairs bytes j) (text_of pairs bytes k)
-
-pub returns-then-same : goal.returns-then-same
-unfolding repeated
-returns-then-same c = let s = first_step (alike c.args.pairs.now c.args.bytes.now c.args.k) c.loop-j.j c.args.k (omega arith) in search rules
-
-pub loop-j-preserved : goal.loop-j-preserved
-loop-j-preserved c = let s = first_step (alike c.args.pairs.now c.args.bytes.now c.args.k) c.loop-j.j c.args.k (omega arith) in search rules
 
 pub returns : goal.returns
 unfolding repeated
-returns c = let s = first-end (alike c.args.pairs.now c.args.bytes.now c.args.k) c.loop-j.j c.args.k (omega arith) in search rules
+returns c =
+    any_from_yields_List _ _ _ _ c.any.ensures.ran (YieldsList-from_range 0 c.args.k c.args.k (cc) (omega arith)) (λ x b q k. search rules)
+    ∙ sym (not_none_from-list_any (λ j. bytes_eq (text_of c.args.pairs.now c.args.bytes.now j) (text_of c.args.pairs.now c.args.bytes.now c.args.k)) 0 c.args.k)

@@ -1,6 +1,9 @@
-use Rattle.std.proofs.Common.{eqb, is_some, ap, ◌∙◌}
+use Rattle.std.proofs.Common.{eqb, rules, ◌∙◌}
 use Rattle.std.specs.Str.{bytes_eq}
 use Rattle.file.specs.Form.{text_at}
+use Rattle.std.proofs.lemmas.Iterator.Consumers.{YieldsList-from_first}
+use Rattle.std.proofs.lemmas.Iterator.Search.{any_from_yields_List}
+use Rattle.file.specs.Rows.{rows_left}
 use Rattle.file.specs.Files.{held}
 use Rattle.card.specs.Cards.{name_list_says, names, of_kind}
 use Rattle.card.proofs.Finds.{some_of_kind}
@@ -9,5 +12,5 @@ use Rattle.card.proofs.known.NameListKnowledge.knows.Goals as goal
 pub returns : goal.returns
 unfolding name_list_says names of_kind
 returns c =
-    c.is_some.ensures ∙ ap is_some c.first_row.ensures
+    any_from_yields_List _ _ _ _ c.any.ensures.ran (YieldsList-from_first (λ row. row) rows_left (held c.args.self.now.card).rows c.rows.ensures) (λ row b q k. search rules)
     ∙ some_of_kind (λ row. eqb row.kind 21) (λ row. text_at (held c.args.self.now.card).texts row.a) (λ name. bytes_eq name c.args.name.now) (held c.args.self.now.card).rows

@@ -3,7 +3,7 @@ use Rattle.std.proofs.lemmas.Result.{err_from_is_err_and}
 use Rattle.file.specs.Form.{opened, within_limits, text_count, row_count, byte_count, size, with_rows, rows_of, read_texts}
 use Rattle.file.specs.Files.{held}
 use Rattle.file.proofs.Opens.{opened_short, opened-outside, opened_wrong, opened-parts}
-use Rattle.file.proofs.Rows.{few-rows}
+use Rattle.file.proofs.Tables.{few-rows}
 use Rattle.file.proofs.checked.File.check.Goals as goal
 use Rattle.file.proofs.checked.File.check.Goals.{After-check, at-returns, at-returns-in_err-texts}
 
