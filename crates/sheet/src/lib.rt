@@ -11,6 +11,7 @@ use record::refusal::Refusal;
 use record::row::PlacedRow;
 
 pub mod copy;
+pub mod rows;
 pub mod tail;
 pub mod through;
 
