@@ -33,6 +33,7 @@ pub fn put_all<S: Sheet>(sheet: &mut S, rows: &[PlacedRow]) -> Result<(), Refusa
 }
 
 // Puts rows one after another and seals them.
+#[tactic(auto, unfolding(crate::specs::Sheets::record_answer, crate::specs::Sheets::after_record))]
 pub fn put_record<S: Sheet>(sheet: &mut S, rows: &[PlacedRow]) -> Result<usize, Refusal>
     ensures answer { result ≡ record_answer (meaning S.Readable S.Sheet.own sheet.old) rows.now }
     ensures meaning { meaning S.Readable S.Sheet.own sheet.new ≡ after_record (meaning S.Readable S.Sheet.own sheet.old) rows.now }
