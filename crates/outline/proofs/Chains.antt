@@ -1,12 +1,13 @@
 -- The open starts of entries, when an entry is added and when the innermost is closed.
 use Rattle.std.proofs.Common.{◌≡◌, ℕ, zero, suc, ◌<◌, ◌≤◌, ◌&&◌, T, leb, List, [], ◌∷◌, ◌++◌, length, take, set, Some, None, Option, sym, refl, ◌∙◌, subst, arith}
 use Rattle.std.specs.List.{slice_get}
+use Rattle.std.proofs.lemmas.Option.{slice_get_within}
 use Rattle.std.proofs.lemmas.List.{take-append-le, take_all, take-set-le}
 use Rattle.outline.specs.declared.entry.Entry.{Entry}
 use Rattle.outline.specs.declared.entry.Span.{Span}
 use Rattle.outline.specs.declared.entry.Span.TheVariants.{Leaf, Open, Closed}
 use Rattle.outline.specs.Sound.{all_before, is_open, is_below, opens_at, chained}
-use Rattle.outline.proofs.Nths.{both, join, nth_lt, nth_push_lt, nth_push_at, nth_set_other}
+use Rattle.outline.proofs.Nths.{both, join, nth_push_lt, nth_push_at, nth_set_other}
 
 below_more : (o : Option ℕ) (i j : ℕ) → i ≤ j → T (is_below o i) → T (is_below o j)
 below_more None i j le h = tt
@@ -82,7 +83,7 @@ chain-below : (s : ℕ) (es : List Entry) (n : ℕ) (o : Option ℕ) → T (chai
 chain-below s es zero None h = tt
 chain-below s es zero (Some i) h = absurd h
 chain-below s es (suc n) None h = absurd h
-chain-below s es (suc n) (Some i) h = let p = chain_entry s es n i h in let lt = nth_lt es i p.0 p.1 in grind arith
+chain-below s es (suc n) (Some i) h = let p = chain_entry s es n i h in let lt = slice_get_within es i p.0 p.1 in grind arith
 
 -- an entry more
 pub chain_push : (s : ℕ) (es : List Entry) (e : Entry) (n : ℕ) (o : Option ℕ) → T (chained s es n o) → T (chained s (es ++ e ∷ []) n o)

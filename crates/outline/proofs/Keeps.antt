@@ -1,7 +1,9 @@
 -- What an outline keeps, when it is new, when a row is put, and when its draft is sealed or dropped.
 use Rattle.std.proofs.Common.{◌≡◌, ℕ, suc, ◌+◌, ◌-◌, ◌*◌, ◌<◌, ◌≤◌, Bool, true, false, cond, ◌&&◌, T, eqb, List, [], ◌∷◌, ◌++◌, length, take, set, Some, None, Ok, Option, sym, refl, ap, ◌∙◌, subst, add-one, arith, length-set, eqb-true}
 use Rattle.std.specs.List.{slice_get}
+use Rattle.std.specs.List.Sorted.{IsNonDecreasingBy}
 use Rattle.std.proofs.lemmas.List.{length_push, take-append-le, take_all, take-set-le, length-take-le}
+use Rattle.std.proofs.lemmas.List.Sorted.{IsNonDecreasingBy-short}
 use Rattle.record.specs.declared.row.PlacedRow.{PlacedRow}
 use Rattle.record.specs.Rows.{kind_of}
 use Rattle.roll.specs.Rolls.{items}
@@ -14,30 +16,24 @@ use Rattle.outline.specs.declared.entry.Entry.{Entry}
 use Rattle.outline.specs.declared.entry.Span.TheVariants.{Leaf, Open}
 use Rattle.outline.specs.declared.Outline.{Outline}
 use Rattle.outline.specs.Entries.{end_row, outline_cost, end_of, rows_of, entry_of, top_behind, closed_by, innermost}
-use Rattle.outline.specs.Found.{same_rows, Findable, LeadsUp}
-use Rattle.outline.specs.Sound.{span_before, all_before, chained, Kept}
+use Rattle.outline.specs.Found.{Findable, LeadsUp}
+use Rattle.outline.specs.Sound.{span_before, all_before, chained, Kept, Sound}
 use Rattle.outline.proofs.Chains.{chain-top, chain-none, chain_entry, top-draft, top_open, top-before, chain_close, chain_push, chain_open}
-use Rattle.outline.proofs.Lookups.{stands, find_push, leads_push, find_close, leads_close}
-use Rattle.outline.proofs.Same.{same-rows, rows_same}
+use Rattle.outline.proofs.Lookups.{find_push, leads_push, find_close, leads_close}
+use Rattle.outline.proofs.Rises.{rises_push, rises_set}
 use Rattle.outline.proofs.Spans.{rows_push, rows_close, before_push, before_close}
 
--- all that an outline keeps, in the order of its fields
-abbrev pub All : List Entry → ℕ → ℕ → ℕ → Option ℕ → Tail → Type 0
-All es sealed count total top tail =
-    (sealed ≤ length es)
-    × (Kept sealed es total tail.starts top
-    × (Findable es total (rows_of es)
-    × (LeadsUp es total top
-    × (Kept sealed (take sealed es) count 0 None
-    × (Findable (take sealed es) count (rows_of (take sealed es))
-    × (LeadsUp (take sealed es) count None
-    × (T (same_rows (rows_of (take sealed es)) (take count (rows_of es)))
-    × (Drafted count tail (rows_of es)
-    × Unit {0}))))))))
+-- what an outline keeps of its entries
+pub record All (es : List Entry) (sealed count total : ℕ) (top : Option ℕ) (tail : Tail) : Type 0 where
+  pub within : sealed ≤ length es
+  pub sound : Sound sealed es total tail.starts top
+  pub sound_before : Sound sealed (take sealed es) count 0 None
+  pub front : rows_of (take sealed es) ≡ take count (rows_of es)
+  pub drafted : Drafted count tail (rows_of es)
 
 pub all_of : (s : Outline) → All (items s.roll) s.sealed s.count s.total s.top s.tail
 all_of s =
-    (s.within, (s.kept, (s.finds, (s.leads, (s.keptbefore, (s.findsbefore, (s.leadsbefore, (s.front, (s.drafted, tt)))))))))
+    record { within = s.within; sound = s.sound; sound_before = s.sound_before; front = s.front; drafted = s.drafted }
 
 three : (a b c : ℕ) → (eqb a 0 && (eqb b 0 && eqb c 0)) ≡ true → (a ≡ 0) × (b ≡ 0) × (c ≡ 0)
 three a b c h = (grind arith, grind arith, grind arith)
@@ -52,21 +48,26 @@ kept_push s es e t n m top up k none free one few chain =
     (ap length rows ∙ omega (arith, k.0), ap (spent outline_cost) rows ∙ omega (arith, k.1), omega (arith, k.2), before_push es e k.3 free, chain)
 
 -- the rest of what is kept, once the list has grown by a row and its sealed part has not
-all_grown : (es fs : List Entry) (sealed count total u : ℕ) (top up : Option ℕ) (t : Tail) (x : PlacedRow) (room : Bool) → All es sealed count total top t → Ok tt ≡ judged t x room → rows_of fs ≡ rows_of es ++ x ∷ [] → take sealed fs ≡ take sealed es → sealed ≤ length fs → Kept sealed fs u (open_behind t.starts x) up → Findable fs u (rows_of es ++ x ∷ []) → LeadsUp fs u up → All fs sealed count u up (tail_behind t x)
+all_grown : (es fs : List Entry) (sealed count total u : ℕ) (top up : Option ℕ) (t : Tail) (x : PlacedRow) (room : Bool) → All es sealed count total top t → Ok tt ≡ judged t x room → rows_of fs ≡ rows_of es ++ x ∷ [] → take sealed fs ≡ take sealed es → sealed ≤ length fs → Kept sealed fs u (open_behind t.starts x) up → IsNonDecreasingBy (λ e. e.number) fs → Findable fs u (rows_of es ++ x ∷ []) → LeadsUp fs u up → All fs sealed count u up (tail_behind t x)
 unfolding tail_behind
-all_grown es fs sealed count total u top up t x room a fine rows front within kept find lead =
-    let d : Drafted count t (rows_of es) = a.1.1.1.1.1.1.1.1.0 in
-    let same : take count (rows_of fs) ≡ take count (rows_of es) = ap (take count) rows ∙ take-append-le count (rows_of es) (x ∷ []) d.0 in
-    (within, (kept, (subst (λ zs. Findable fs u zs) (sym rows) find, (lead, (subst (λ zs. Kept sealed zs count 0 None) (sym front) a.1.1.1.1.0, (subst (λ zs. Findable zs count (rows_of zs)) (sym front) a.1.1.1.1.1.0, (subst (λ zs. LeadsUp zs count None) (sym front) a.1.1.1.1.1.1.0, (subst (λ zs. T (same_rows (rows_of zs) (take count (rows_of fs)))) (sym front) (subst (λ zs. T (same_rows (rows_of (take sealed es)) zs)) (sym same) a.1.1.1.1.1.1.1.0), (drafted-put count t (rows_of es) d (rows_of fs) x room rows fine, tt)))))))))
+all_grown es fs sealed count total u top up t x room a fine rows front within kept up_to find lead =
+    let same : take count (rows_of fs) ≡ take count (rows_of es) = ap (take count) rows ∙ take-append-le count (rows_of es) (x ∷ []) a.drafted.0 in
+    record {
+      within = within;
+      sound = record { kept = kept; rises = up_to; finds = subst (λ zs. Findable fs u zs) (sym rows) find; leads = lead };
+      sound_before = subst (λ zs. Sound sealed zs count 0 None) (sym front) a.sound_before;
+      front = ap rows_of front ∙ a.front ∙ sym same;
+      drafted = drafted-put count t (rows_of es) a.drafted (rows_of fs) x room rows fine;
+    }
 
 module _ (es : List Entry) (sealed count total : ℕ) (top : Option ℕ) (t : Tail) (a : All es sealed count total top t) where
   kept : Kept sealed es total t.starts top
-  kept = a.1.0
+  kept = a.sound.kept
 
   pub few-rows : (total + t.starts ≤ 2 * length es) × (t.starts ≤ length es)
   few-rows =
       let k = kept in
-      (k.2, omega (arith, k.2, drafted_starts count t (rows_of es) a.1.1.1.1.1.1.1.1.0, k.0))
+      (k.2, omega (arith, k.2, drafted_starts count t (rows_of es) a.drafted, k.0))
 
   -- a row that is no end
   module _ (x : PlacedRow) (room : Bool) (fine : Ok tt ≡ judged t x room) (stays : is_end x ≡ false) where
@@ -84,7 +85,7 @@ module _ (es : List Entry) (sealed count total : ℕ) (top : Option ℕ) (t : Ta
     kept-made : (b : Bool) → is_start x ≡ b → Kept sealed (es ++ made b ∷ []) (total + 1) (cond b (t.starts + 1) (cond (is_end x) (t.starts - 1) t.starts)) (cond b (Some (length es)) top)
     kept-made true s =
         kept_push sealed es (made true) total t.starts (t.starts + 1) top (Some (length es)) kept (end-less true) (free true) (grind arith) (omega arith)
-        (subst (λ n. T (chained sealed (es ++ made true ∷ []) n (Some (length es)))) (sym (add-one t.starts)) (chain_open sealed es (made true) t.starts a.0 kept.3 refl kept.4))
+        (subst (λ n. T (chained sealed (es ++ made true ∷ []) n (Some (length es)))) (sym (add-one t.starts)) (chain_open sealed es (made true) t.starts a.within kept.3 refl kept.4))
     kept-made false s =
         let none : cond (is_end x) (t.starts - 1) t.starts ≡ t.starts = ap (λ b. cond b (t.starts - 1) t.starts) stays in
         subst (λ n. Kept sealed (es ++ made false ∷ []) (total + 1) n top) (sym none)
@@ -103,11 +104,12 @@ module _ (es : List Entry) (sealed count total : ℕ) (top : Option ℕ) (t : Ta
         (subst (λ zs. All zs sealed count (total + 1) up (tail_behind t x)) (sym e)
         (subst (λ o. All (es ++ entry_of x total top ∷ []) sealed count (total + 1) o (tail_behind t x)) (sym q)
         (all_grown es (es ++ entry_of x total top ∷ []) sealed count total (total + 1) top (top_behind x (length es) top) t x room a fine entry_rows
-        (take-append-le sealed es (entry_of x total top ∷ []) a.0)
-        (omega (arith, length_push es (entry_of x total top), a.0))
+        (take-append-le sealed es (entry_of x total top ∷ []) a.within)
+        (omega (arith, length_push es (entry_of x total top), a.within))
         (kept-made (is_start x) refl)
-        (find_push es (entry_of x total top) total (rows_of es) refl kept.0 a.1.1.0)
-        (leads_push es (entry_of x total top) total (rows_of es) refl kept.0 top (top_behind x (length es) top) (up-made (is_start x)) a.1.1.1.0))))
+        (rises_push es (entry_of x total top) total top refl a.sound.leads a.sound.rises)
+        (find_push es (entry_of x total top) total (rows_of es) refl kept.0 a.sound.finds)
+        (leads_push es (entry_of x total top) total (rows_of es) refl kept.0 top (top_behind x (length es) top) (up-made (is_start x)) a.sound.leads))))
 
   -- an end
   module _ (x : PlacedRow) (room : Bool) (fine : Ok tt ≡ judged t x room) (ends : is_end x ≡ true) where
@@ -148,6 +150,9 @@ module _ (es : List Entry) (sealed count total : ℕ) (top : Option ℕ) (t : Ta
         was_open : e.span ≡ Open
         was_open = top_open sealed es (t.starts - 1) j e at chain-at
 
+        leads-up : LeadsUp es total (Some j)
+        leads-up = subst (λ o. LeadsUp es total o) is a.sound.leads
+
         pub end-rows : rows_of shut ≡ rows_of es ++ x ∷ []
         end-rows =
             rows_close es j e x.place b at was_open inside (top-before sealed es (t.starts - 1) j e at chain-at)
@@ -170,10 +175,11 @@ module _ (es : List Entry) (sealed count total : ℕ) (top : Option ℕ) (t : Ta
             (subst (λ zs. All zs sealed count (total + 1) e.around (tail_behind t x)) (sym q)
             (all_grown es shut sealed count total (total + 1) top e.around t x room a fine end-rows
             (take-set-le sealed es j (closed_by e x.place b) (top-draft sealed es (t.starts - 1) j e at chain-at))
-            (omega (arith, length-set es j (closed_by e x.place b), a.0))
+            (omega (arith, length-set es j (closed_by e x.place b), a.within))
             kept-shut
-            (subst (λ y. Findable shut (total + 1) (rows_of es ++ y ∷ [])) (sym is-end) (find_close es j e x.place b total (rows_of es) at was_open kept.0 (subst (λ o. LeadsUp es total o) is a.1.1.1.0) a.1.1.0))
-            (leads_close es j e x.place b total (rows_of es) at was_open kept.0 (subst (λ o. LeadsUp es total o) is a.1.1.1.0))))
+            (rises_set es j e (closed_by e x.place b) at refl a.sound.rises)
+            (subst (λ y. Findable shut (total + 1) (rows_of es ++ y ∷ [])) (sym is-end) (find_close es j e x.place b total (rows_of es) at was_open kept.0 leads-up a.sound.finds))
+            (leads_close es j e x.place b total (rows_of es) at was_open kept.0 leads-up)))
 
   -- the draft sealed
   pub seal_all : (m : ℕ) (u : Tail) → m ≡ length es → t.starts ≡ 0 → u ≡ tail_of [] → All es m total total top u
@@ -181,34 +187,45 @@ module _ (es : List Entry) (sealed count total : ℕ) (top : Option ℕ) (t : Ta
   seal_all m u e shut r =
       let all : take m es ≡ es = take_all m es (omega arith) in
       let none : top ≡ None = chain-none sealed es top (subst (λ n. T (chained sealed es n top)) shut kept.4) in
-      let k : Kept m es total 0 None = (kept.0, kept.1, omega (arith, kept.2), kept.3, tt) in
       let whole : take total (rows_of es) ≡ rows_of es = take_all total (rows_of es) (omega (arith, kept.0)) in
+      let s : Sound m es total 0 None = record { kept = (kept.0, kept.1, omega (arith, kept.2), kept.3, tt); rises = a.sound.rises; finds = a.sound.finds; leads = subst (λ o. LeadsUp es total o) none a.sound.leads } in
       subst (λ v. All es m total total top v) (sym r)
-      (omega arith, (subst (λ o. Kept m es total 0 o) (sym none) k, (a.1.1.0, (a.1.1.1.0, (subst (λ zs. Kept m zs total 0 None) (sym all) k, (subst (λ zs. Findable zs total (rows_of zs)) (sym all) a.1.1.0, (subst (λ zs. LeadsUp zs total None) (sym all) (subst (λ o. LeadsUp es total o) none a.1.1.1.0), (subst (λ zs. T (same_rows (rows_of zs) (take total (rows_of es)))) (sym all) (subst (λ zs. T (same_rows (rows_of es) zs)) (sym whole) (rows_same (rows_of es))), (drafted_seal count t (rows_of es) a.1.1.1.1.1.1.1.1.0 total (sym kept.0) shut, tt)))))))))
-
-  -- the rows of the sealed entries
-  pub front-rows : rows_of (take sealed es) ≡ take count (rows_of es)
-  front-rows = same-rows _ _ a.1.1.1.1.1.1.1.0
+      (record {
+        within = omega arith;
+        sound = subst (λ o. Sound m es total 0 o) (sym none) s;
+        sound_before = subst (λ zs. Sound m zs total 0 None) (sym all) s;
+        front = ap rows_of all ∙ sym whole;
+        drafted = drafted_seal count t (rows_of es) a.drafted total (sym kept.0) shut;
+      })
 
   -- the draft dropped
   pub drop_all : (fs : List Entry) (u : Tail) → fs ≡ take sealed es → u ≡ tail_of [] → All fs sealed count count None u
   unfolding tail_of open_in
   drop_all fs u e r =
-      let long : length (take sealed es) ≡ sealed = length-take-le sealed es a.0 in
+      let long : length (take sealed es) ≡ sealed = length-take-le sealed es a.within in
       let same : take sealed (take sealed es) ≡ take sealed es = take_all sealed (take sealed es) (omega arith) in
-      let k : Kept sealed (take sealed es) count 0 None = a.1.1.1.1.0 in
-      let f : Findable (take sealed es) count (rows_of (take sealed es)) = a.1.1.1.1.1.0 in
-      let l : LeadsUp (take sealed es) count None = a.1.1.1.1.1.1.0 in
-      let whole : take count (rows_of (take sealed es)) ≡ rows_of (take sealed es) = take_all count (rows_of (take sealed es)) (omega (arith, k.0)) in
+      let whole : take count (rows_of (take sealed es)) ≡ rows_of (take sealed es) = take_all count (rows_of (take sealed es)) (omega (arith, a.sound_before.kept.0)) in
       subst (λ v. All fs sealed count count None v) (sym r)
       (subst (λ zs. All zs sealed count count None (tail_of [])) (sym e)
-      (omega arith, (k, (f, (l, (subst (λ zs. Kept sealed zs count 0 None) (sym same) k, (subst (λ zs. Findable zs count (rows_of zs)) (sym same) f, (subst (λ zs. LeadsUp zs count None) (sym same) l, (subst (λ zs. T (same_rows (rows_of zs) (take count (rows_of (take sealed es))))) (sym same) (subst (λ zs. T (same_rows (rows_of (take sealed es)) zs)) (sym whole) (rows_same (rows_of (take sealed es)))), (drafted-drop count t (rows_of es) a.1.1.1.1.1.1.1.1.0 (rows_of (take sealed es)) front-rows, tt))))))))))
+      (record {
+        within = omega arith;
+        sound = a.sound_before;
+        sound_before = subst (λ zs. Sound sealed zs count 0 None) (sym same) a.sound_before;
+        front = ap rows_of same ∙ sym whole;
+        drafted = drafted-drop count t (rows_of es) a.drafted (rows_of (take sealed es)) a.front;
+      }))
 
 pub new_all : (es : List Entry) (t : Tail) → es ≡ [] → t ≡ tail_of [] → All es 0 0 0 None t
 unfolding rows_of tail_of open_in pairs
 new_all es t e q =
     subst (λ zs. All zs 0 0 0 None t) (sym e) (subst (λ u. All [] 0 0 0 None u) (sym q)
-    (omega arith, (nothing, ((λ i n h. absurd (omega (arith, (stands [] 0 i n h).0))), ((refl, λ i h. absurd (omega arith)), (nothing, ((λ i n h. absurd (omega (arith, (stands [] 0 i n h).0))), ((refl, λ i h. absurd (omega arith)), (tt, ((omega arith, refl, tt, tt), tt))))))))))
+    (record { within = omega arith; sound = none; sound_before = none; front = refl; drafted = (omega arith, refl, tt, tt) }))
   where
-    nothing : Kept 0 [] 0 0 None
-    nothing = (refl, refl, omega arith, tt, tt)
+    none : Sound 0 [] 0 0 None
+    none =
+        record {
+          kept = (refl, refl, omega arith, tt, tt);
+          rises = IsNonDecreasingBy-short (λ e. e.number) [] (omega arith);
+          finds = λ i n h. absurd (omega (arith, h.0));
+          leads = (refl, λ i h. absurd (omega arith));
+        }

@@ -2,5 +2,5 @@ pub mod Chains
 pub mod Keeps
 pub mod Lookups
 pub mod Nths
-pub mod Same
+pub mod Rises
 pub mod Spans

@@ -1,17 +1,16 @@
 -- Rows found by their numbers, when an entry is added and when an open start is closed.
-use Rattle.std.proofs.Common.{◌≡◌, ℕ, zero, suc, ◌+◌, ◌-◌, ◌<◌, ◌≤◌, ◌&&◌, T, ltb, List, [], ◌∷◌, ◌++◌, length, set, Some, None, Option, sym, refl, ap, ◌∙◌, subst, ⊎_elim, arith, length-set}
+use Rattle.std.proofs.Common.{◌≡◌, ℕ, zero, suc, ◌+◌, ◌-◌, ◌<◌, ◌≤◌, List, [], ◌∷◌, ◌++◌, length, set, Some, None, Option, sym, refl, ap, ◌∙◌, subst, ⊎_elim, arith, length-set}
 use Rattle.std.specs.List.{slice_get}
 use Rattle.std.proofs.lemmas.List.{length_push}
-use Rattle.std.proofs.lemmas.Option.{slice_get_past}
+use Rattle.std.proofs.lemmas.Option.{none-some, same_Some, slice_get_past, slice_get_within}
 use Rattle.std.proofs.lemmas.Bool.{cases_lt, cases_eq}
 use Rattle.record.specs.declared.row.PlacedRow.{PlacedRow}
 use Rattle.sheet.specs.Rows.{Rows}
 use Rattle.outline.specs.declared.entry.Entry.{Entry}
 use Rattle.outline.specs.declared.entry.Span.TheVariants.{Open}
 use Rattle.outline.specs.Entries.{end_row, innermost, closed_by}
-use Rattle.outline.specs.Found.{number_or, number_at, around_of, around_at, climbed, end_in, end_for, end_at, found_from, found_at, same_answer, stands_by, Findable, top_from, LeadsUp}
-use Rattle.outline.proofs.Nths.{both, join, nth_lt, nth_some, nth_push_lt, nth_push_at, nth_set_same, nth_set_other}
-use Rattle.outline.proofs.Same.{same_answer_lem, answer-same}
+use Rattle.outline.specs.Found.{number_or, number_at, around_of, around_at, climbed, end_in, end_for, end_at, found_from, found_at, StandsBy, Findable, top_from, LeadsUp}
+use Rattle.outline.proofs.Nths.{nth_some, nth_push_lt, nth_push_at, nth_set_same, nth_set_other}
 
 -- an entry that stays, or an open start that is closed
 pub record Grown (d e : Entry) : Type 0 where
@@ -29,45 +28,36 @@ stays : (d : Entry) → Grown d d
 stays d = record { row = refl; number = refl; around = refl; start = λ i. refl; end = λ x h. h }
 
 grows_push : (es : List Entry) (e : Entry) → Grows es (es ++ e ∷ [])
-grows_push es e i d at = let lt = nth_lt es i d at in (d, nth_push_lt es e i lt ∙ at, stays d)
+grows_push es e i d at = let lt = slice_get_within es i d at in (d, nth_push_lt es e i lt ∙ at, stays d)
 
 closes : (d : Entry) (p b : ℕ) → d.span ≡ Open → Grown d (closed_by d p b)
 closes d p b opened =
-    record { row = refl; number = refl; around = refl; start = λ i. sym (ap (λ s. innermost i s d.around) opened); end = λ x h. absurd (never x (sym (ap end_in opened) ∙ h)) }
-  where
-    never : (x : PlacedRow) → ◌≡◌ {A = Option PlacedRow} None (Some x) → ⊥
-    never x q = grind arith
+    record { row = refl; number = refl; around = refl; start = λ i. sym (ap (λ s. innermost i s d.around) opened); end = λ x h. absurd (none-some x (sym (ap end_in opened) ∙ h)) }
 
 grows_close : (es : List Entry) (j : ℕ) (e : Entry) (p b : ℕ) → slice_get es j ≡ Some e → e.span ≡ Open → Grows es (set es j (closed_by e p b))
 grows_close es j e p b at opened i d here =
     ⊎_elim
-    (λ (q : i ≡ j). let same : d ≡ e = some_same d e (sym here ∙ ap (slice_get es) q ∙ at) in (closed_by e p b, ap (slice_get (set es j (closed_by e p b))) q ∙ nth_set_same es (closed_by e p b) j (nth_lt es j e at), subst (λ x. Grown x (closed_by e p b)) (sym same) (closes e p b opened)))
+    (λ (q : i ≡ j). let same : d ≡ e = same_Some d e (sym here ∙ ap (slice_get es) q ∙ at) in (closed_by e p b, ap (slice_get (set es j (closed_by e p b))) q ∙ nth_set_same es (closed_by e p b) j (slice_get_within es j e at), subst (λ x. Grown x (closed_by e p b)) (sym same) (closes e p b opened)))
     (λ (ne : i ≡ j → ⊥). (d, nth_set_other es (closed_by e p b) j i ne ∙ here, stays d))
     (cases_eq i j)
-  where
-    some_same : (x y : Entry) → Some x ≡ Some y → x ≡ y
-    some_same x y q = cc
-
-some-none : {X : Type 0} (x : X) → ◌≡◌ {A = Option X} None (Some x) → ⊥
-some-none x q = grind arith
 
 module _ (es fs : List Entry) (grows : Grows es fs) where
   around-grows : (o : Option Entry) (i j : ℕ) → slice_get es i ≡ o → around_of o ≡ Some j → around_of (slice_get fs i) ≡ Some j
-  around-grows None i j at h = absurd (some-none j h)
+  around-grows None i j at h = absurd (none-some j h)
   around-grows (Some d) i j at h = let g = grows i d at in ap around_of g.1 ∙ g.2.around ∙ h
 
   climb_grows : (k : ℕ) (s : Option ℕ) (j : ℕ) → climbed es k s ≡ Some j → climbed fs k s ≡ Some j
   climb_grows zero s j h = h
   climb_grows (suc k) s j h = step (climbed es k s) (climbed fs k s) (λ i. climb_grows k s i) h where
     step : (o u : Option ℕ) → ((i : ℕ) → o ≡ Some i → u ≡ Some i) → around_at es o ≡ Some j → around_at fs u ≡ Some j
-    step None u f h = absurd (some-none j h)
+    step None u f h = absurd (none-some j h)
     step (Some i) u f h = ap (around_at fs) (f i refl) ∙ around-grows (slice_get es i) i j refl h
 
   end-grows : (o : Option ℕ) (x : PlacedRow) → end_at es o ≡ Some x → end_at fs o ≡ Some x
   end-grows None x h = h
   end-grows (Some i) x h = go (slice_get es i) refl h where
     go : (o : Option Entry) → slice_get es i ≡ o → end_for o ≡ Some x → end_for (slice_get fs i) ≡ Some x
-    go None at h = absurd (some-none x h)
+    go None at h = absurd (none-some x h)
     go (Some d) at h = let g = grows i d at in ap end_for g.1 ∙ g.2.end x h
 
   found-grows : (i k : ℕ) (x : PlacedRow) → found_at es i k ≡ Some x → found_at fs i k ≡ Some x
@@ -75,12 +65,12 @@ module _ (es fs : List Entry) (grows : Grows es fs) where
     up : (k : ℕ) (s : Option ℕ) → end_at es (climbed es k s) ≡ Some x → end_at fs (climbed fs k s) ≡ Some x
     up k s h = step (climbed es k s) refl h where
       step : (o : Option ℕ) → climbed es k s ≡ o → end_at es o ≡ Some x → end_at fs (climbed fs k s) ≡ Some x
-      step None q h = absurd (some-none x h)
+      step None q h = absurd (none-some x h)
       step (Some j) q h = ap (end_at fs) (climb_grows k s j q) ∙ end-grows (Some j) x h
 
     go : (o : Option Entry) (k : ℕ) → slice_get es i ≡ o → found_from es i k o ≡ Some x → found_from fs i k (slice_get fs i) ≡ Some x
-    go None zero at h = absurd (some-none x h)
-    go None (suc k) at h = absurd (some-none x h)
+    go None zero at h = absurd (none-some x h)
+    go None (suc k) at h = absurd (none-some x h)
     go (Some d) zero at h = let g = grows i d at in ap (found_from fs i zero) g.1 ∙ ap Some g.2.row ∙ h
     go (Some d) (suc k) at h =
         let g = grows i d at in
@@ -93,27 +83,16 @@ module _ (es fs : List Entry) (grows : Grows es fs) where
       ap (number_or u) g.1 ∙ g.2.number ∙ sym (ap (number_or t) p.1)
 
   -- a row that was found is found still
-  row-grows : (t i n : ℕ) (rows : Rows) (x : PlacedRow) → length rows ≡ t → i < length es → T (ltb n t && same_answer (found_at es i (n - number_at es t i)) (slice_get rows n)) → T (ltb n (t + 1) && same_answer (found_at fs i (n - number_at fs (t + 1) i)) (slice_get (rows ++ x ∷ []) n))
+  row-grows : (t i n : ℕ) (rows : Rows) (x : PlacedRow) → length rows ≡ t → i < length es → (n < t) × (found_at es i (n - number_at es t i) ≡ slice_get rows n) → (n < t + 1) × (found_at fs i (n - number_at fs (t + 1) i) ≡ slice_get (rows ++ x ∷ []) n)
   row-grows t i n rows x long lt h =
-      let p = both (ltb n t) (same_answer (found_at es i (n - number_at es t i)) (slice_get rows n)) h in
-      let low : n < t = (let a = p.0 in grind arith) in
-      let y = nth_some rows n (omega arith) in
-      let was : found_at es i (n - number_at es t i) ≡ Some y.0 = same_answer_lem _ _ p.1 ∙ y.1 in
+      let y = nth_some rows n (omega (arith, h.0)) in
+      let was : found_at es i (n - number_at es t i) ≡ Some y.0 = h.1 ∙ y.1 in
       let is : found_at fs i (n - number_at fs (t + 1) i) ≡ Some y.0 = ap (λ m. found_at fs i (n - m)) (number-grows t (t + 1) i lt) ∙ found-grows i (n - number_at es t i) y.0 was in
-      let now : slice_get (rows ++ x ∷ []) n ≡ Some y.0 = nth_push_lt rows x n (omega arith) ∙ y.1 in
-      join (ltb n (t + 1)) _ (grind arith) (subst (λ o. T (same_answer o (slice_get (rows ++ x ∷ []) n))) (sym is) (subst (λ o. T (same_answer (Some y.0) o)) (sym now) (answer-same (Some y.0))))
-
-pub stands : (es : List Entry) (t i n : ℕ) → T (stands_by es t i n) → (i < length es) × (number_at es t i ≤ n) × (n < number_at es t (i + 1))
-stands es t i n h = (grind arith, grind arith, grind arith)
-
-pub stand : (es : List Entry) (t i n : ℕ) → i < length es → number_at es t i ≤ n → n < number_at es t (i + 1) → T (stands_by es t i n)
-stand es t i n a b c = grind arith
+      let now : slice_get (rows ++ x ∷ []) n ≡ Some y.0 = nth_push_lt rows x n (omega (arith, h.0)) ∙ y.1 in
+      (omega (arith, h.0), is ∙ sym now)
 
 pub number_past : (es : List Entry) (t i : ℕ) → length es ≤ i → number_at es t i ≡ t
 number_past es t i h = ap (number_or t) (slice_get_past es i h)
-
-answered : (x y : Option PlacedRow) → x ≡ y → T (same_answer x y)
-answered x y q = subst (λ o. T (same_answer x o)) q (answer-same x)
 
 -- an entry more
 
@@ -133,22 +112,21 @@ module _ (es : List Entry) (e : Entry) (t : ℕ) (rows : Rows) (numbered : e.num
 
   pub find_push : Findable es t rows → Findable (es ++ e ∷ []) (t + 1) (rows ++ e.row ∷ [])
   find_push find i n h =
-      let s = stands (es ++ e ∷ []) (t + 1) i n h in
       let more = length_push es e in
       ⊎_elim
       (λ (q : i < length es).
       let a = number-grows es (es ++ e ∷ []) (grows_push es e) t (t + 1) i q in
       let b = next_push i q in
-      row-grows es (es ++ e ∷ []) (grows_push es e) t i n rows e.row long q (find i n (stand es t i n q (omega (arith, s.1)) (omega (arith, s.2)))))
+      row-grows es (es ++ e ∷ []) (grows_push es e) t i n rows e.row long q (find i n (q, omega (arith, h.1), omega (arith, h.2))))
       (λ (q : length es ≤ i).
-      let at : i ≡ length es = omega (arith, s.0) in
+      let at : i ≡ length es = omega (arith, h.0) in
       let a = number-last (t + 1) i at in
       let b = number_past (es ++ e ∷ []) (t + 1) (i + 1) (omega arith) in
-      let here : n ≡ t = omega (arith, s.1, s.2) in
+      let here : n ≡ t = omega (arith, h.1, h.2) in
       let none : n - number_at (es ++ e ∷ []) (t + 1) i ≡ 0 = omega arith in
       let found : found_at (es ++ e ∷ []) i (n - number_at (es ++ e ∷ []) (t + 1) i) ≡ Some e.row = ap (found_at (es ++ e ∷ []) i) none ∙ ap (found_from (es ++ e ∷ []) i 0) (nth_push_at es e i at) in
       let row : slice_get (rows ++ e.row ∷ []) n ≡ Some e.row = nth_push_at rows e.row n (omega arith) in
-      join (ltb n (t + 1)) _ (grind arith) (answered _ _ (found ∙ sym row)))
+      (omega arith, found ∙ sym row))
       (cases_lt i (length es))
 
   pub leads_push : (top u : Option ℕ) → u ≡ innermost (length es) e.span e.around → LeadsUp es t top → LeadsUp (es ++ e ∷ []) (t + 1) u
@@ -179,7 +157,7 @@ module _ (es : List Entry) (j : ℕ) (e : Entry) (p b t : ℕ) (rows : Rows) (at
   same_length = length-set es j (closed_by e p b)
 
   closed-here : slice_get gs j ≡ Some (closed_by e p b)
-  closed-here = nth_set_same es (closed_by e p b) j (nth_lt es j e at)
+  closed-here = nth_set_same es (closed_by e p b) j (slice_get_within es j e at)
 
   -- the last entry leads up to the start that is closed
   leads_here : (i : ℕ) (d : Entry) → length es ≡ i + 1 → slice_get es i ≡ Some d → (d.number < t) × (climbed gs (t - d.number - 1) (innermost i d.span d.around) ≡ Some j)
@@ -190,20 +168,19 @@ module _ (es : List Entry) (j : ℕ) (e : Entry) (p b t : ℕ) (rows : Rows) (at
 
   pub find_close : Findable es t rows → Findable gs (t + 1) (rows ++ end_row p ∷ [])
   find_close find i n h =
-      let s = stands gs (t + 1) i n h in
-      let lt : i < length es = (let q = same_length in omega (arith, s.0)) in
+      let lt : i < length es = (let q = same_length in omega (arith, h.0)) in
       let a = number-grows es gs grew t (t + 1) i lt in
       ⊎_elim
       (λ (q : i + 1 < length es).
       let next = number-grows es gs grew t (t + 1) (i + 1) q in
-      row-grows es gs grew t i n rows (end_row p) long lt (find i n (stand es t i n lt (omega (arith, s.1)) (omega (arith, s.2)))))
+      row-grows es gs grew t i n rows (end_row p) long lt (find i n (lt, omega (arith, h.1), omega (arith, h.2))))
       (λ (q : length es ≤ i + 1).
       let next = number_past es t (i + 1) q in
       let past = number_past gs (t + 1) (i + 1) (let r = same_length in omega arith) in
       ⊎_elim
-      (λ (r : n < t). row-grows es gs grew t i n rows (end_row p) long lt (find i n (stand es t i n lt (omega (arith, s.1)) (omega arith))))
+      (λ (r : n < t). row-grows es gs grew t i n rows (end_row p) long lt (find i n (lt, omega (arith, h.1), omega arith)))
       (λ (r : t ≤ n).
-      let here : n ≡ t = omega (arith, s.2) in
+      let here : n ≡ t = omega (arith, h.2) in
       let d = nth_some es i lt in
       let up = leads_here i d.0 (omega arith) d.1 in
       let g = grew i d.0 d.1 in
@@ -211,13 +188,13 @@ module _ (es : List Entry) (j : ℕ) (e : Entry) (p b t : ℕ) (rows : Rows) (at
       let steps : n - number_at gs (t + 1) i ≡ suc (t - d.0.number - 1) = omega (arith, up.0) in
       let found : found_at gs i (n - number_at gs (t + 1) i) ≡ Some (end_row p) = ap (found_at gs i) steps ∙ ap (found_from gs i (suc (t - d.0.number - 1))) g.1 ∙ ap (λ s. end_at gs (climbed gs (t - d.0.number - 1) s)) (g.2.start i) ∙ ap (end_at gs) up.1 ∙ ap end_for closed-here in
       let row : slice_get (rows ++ end_row p ∷ []) n ≡ Some (end_row p) = nth_push_at rows (end_row p) n (omega arith) in
-      join (ltb n (t + 1)) _ (grind arith) (answered _ _ (found ∙ sym row)))
+      (omega arith, found ∙ sym row))
       (cases_lt n t))
       (cases_lt (i + 1) (length es))
 
   pub leads_close : LeadsUp gs (t + 1) e.around
   leads_close = (
-    number-grows es gs grew t (t + 1) 0 (let lt = nth_lt es j e at in omega arith) ∙ lead.0,
+    number-grows es gs grew t (t + 1) 0 (let lt = slice_get_within es j e at in omega arith) ∙ lead.0,
     λ i last.
         let was : length es ≡ i + 1 = sym same_length ∙ last in
         let d = nth_some es i (omega arith) in

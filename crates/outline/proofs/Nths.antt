@@ -15,11 +15,6 @@ nth_some [] i h = absurd (omega arith)
 nth_some (x ∷ xs) zero h = (x, refl)
 nth_some (x ∷ xs) (suc i) h = nth_some xs i (omega arith)
 
-pub nth_lt : {X : Type 0} (xs : List X) (i : ℕ) (x : X) → slice_get xs i ≡ Some x → i < length xs
-nth_lt [] i x at = absurd (grind arith)
-nth_lt (y ∷ ys) zero x at = omega arith
-nth_lt (y ∷ ys) (suc i) x at = let h = nth_lt ys i x at in omega arith
-
 pub nth_push_lt : {X : Type 0} (xs : List X) (y : X) (i : ℕ) → i < length xs → slice_get (xs ++ y ∷ []) i ≡ slice_get xs i
 nth_push_lt [] y i h = absurd (omega arith)
 nth_push_lt (x ∷ xs) y zero h = refl

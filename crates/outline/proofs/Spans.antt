@@ -1,6 +1,7 @@
 -- The rows that entries stand for: one entry more at the end, and an open start closed.
 use Rattle.std.proofs.Common.{◌≡◌, ℕ, zero, suc, ◌+◌, ◌-◌, ◌≤◌, true, false, ◌&&◌, T, eqb, ◌≢◌, List, [], ◌∷◌, ◌++◌, length, take, drop, set, Some, sym, refl, ap, ◌∙◌, subst, append_assoc, arith}
 use Rattle.std.specs.List.{slice_get}
+use Rattle.std.proofs.lemmas.Option.{slice_get_within}
 use Rattle.std.proofs.lemmas.List.{append-nil, length-append, set_split, take-append-drop, length-take-le, length-drop}
 use Rattle.record.specs.declared.row.PlacedRow.{PlacedRow}
 use Rattle.sheet.specs.Rows.{Rows}
@@ -10,7 +11,7 @@ use Rattle.outline.specs.declared.entry.Span.{Span}
 use Rattle.outline.specs.declared.entry.Span.TheVariants.{Leaf, Open, Closed}
 use Rattle.outline.specs.Entries.{end_row, end_of, ends, rows_from, rows_of, closed_by}
 use Rattle.outline.specs.Sound.{span_before, all_before}
-use Rattle.outline.proofs.Nths.{both, join, nth_lt}
+use Rattle.outline.proofs.Nths.{both, join}
 
 -- the ends of joined lists
 
@@ -145,14 +146,14 @@ pub split_at : (es : List Entry) (j : ℕ) (e : Entry) → slice_get es j ≡ So
 split_at es j e at = sym (take-append-drop j es) ∙ ap (λ zs. take j es ++ zs) (drop_nth es j e at)
 
 set_at : (es : List Entry) (j : ℕ) (e d : Entry) → slice_get es j ≡ Some e → set es j d ≡ take j es ++ d ∷ drop (j + 1) es
-set_at es j e d at = let h = nth_lt es j e at in set_split es j d h ∙ ap (λ n. take j es ++ d ∷ drop n es) {x = suc j} (omega arith)
+set_at es j e d at = let h = slice_get_within es j e at in set_split es j d h ∙ ap (λ n. take j es ++ d ∷ drop n es) {x = suc j} (omega arith)
 
 module _ (es : List Entry) (j : ℕ) (e : Entry) (p b : ℕ) (at : slice_get es j ≡ Some e) (opened : e.span ≡ Open) (inside : b ≡ length es - 1 - j) where
   rest : b ≡ length (drop (j + 1) es)
-  rest = let h = nth_lt es j e at in let d = length-drop (j + 1) es in omega arith
+  rest = let h = slice_get_within es j e at in let d = length-drop (j + 1) es in omega arith
 
   front : length (take j es) ≡ j
-  front = let h = nth_lt es j e at in length-take-le j es (omega arith)
+  front = let h = slice_get_within es j e at in length-take-le j es (omega arith)
 
   pub rows_close : T (all_before 0 j (take j es)) → rows_of (set es j (closed_by e p b)) ≡ rows_of es ++ end_row p ∷ []
   rows_close h =
@@ -163,7 +164,7 @@ module _ (es : List Entry) (j : ℕ) (e : Entry) (p b : ℕ) (at : slice_get es 
   pub before_close : T (all_before 0 (length es) es) → T (all_before 0 (length es) (set es j (closed_by e p b)))
   before_close h =
       let n : ℕ = length es in
-      let lt = nth_lt es j e at in
+      let lt = slice_get_within es j e at in
       let was : all_before 0 n es ≡ (all_before 0 n (take j es) && all_before (0 + length (take j es)) n (e ∷ drop (j + 1) es)) = ap (all_before 0 n) (split_at es j e at) ∙ before_append 0 n (take j es) (e ∷ drop (j + 1) es) in
       let is : all_before 0 n (set es j (closed_by e p b)) ≡ (all_before 0 n (take j es) && all_before (0 + length (take j es)) n (closed_by e p b ∷ drop (j + 1) es)) = ap (all_before 0 n) (set_at es j e (closed_by e p b) at) ∙ before_append 0 n (take j es) (closed_by e p b ∷ drop (j + 1) es) in
       let k : ℕ = 0 + length (take j es) in

@@ -1,5 +1,5 @@
 -- How a row is found by its number.
-use Rattle.std.specs.Prelude.{◌≡◌, ℕ, zero, suc, ◌+◌, ◌-◌, ◌<◌, Bool, true, false, ◌&&◌, T, List, [], ◌∷◌, length, Some, None, Option, ◌==◌, nat_le, nat_lt}
+use Rattle.std.specs.Prelude.{◌≡◌, ℕ, zero, suc, ◌+◌, ◌-◌, ◌<◌, ◌≤◌, List, length, Some, None, Option}
 use Rattle.std.specs.List.{slice_get}
 use Rattle.record.specs.declared.row.PlacedRow.{PlacedRow}
 use Rattle.sheet.specs.Rows.{Rows}
@@ -53,33 +53,15 @@ found_from es i (suc k) (Some e) = end_at es (climbed es k (innermost i e.span e
 abbrev pub found_at : List Entry → ℕ → ℕ → Option PlacedRow
 found_at es i k = found_from es i k (slice_get es i)
 
--- the same row, as a test
-abbrev pub same_row : PlacedRow → PlacedRow → Bool
-same_row x y =
-    (x.place == y.place)
-    && (x.row.kind == y.row.kind && (x.row.a == y.row.a && (x.row.b == y.row.b && x.row.c == y.row.c)))
-
-abbrev pub same_rows : Rows → Rows → Bool
-same_rows [] [] = true
-same_rows [] (y ∷ ys) = false
-same_rows (x ∷ xs) [] = false
-same_rows (x ∷ xs) (y ∷ ys) = same_row x y && same_rows xs ys
-
-abbrev pub same_answer : Option PlacedRow → Option PlacedRow → Bool
-same_answer None None = true
-same_answer None (Some y) = false
-same_answer (Some x) None = false
-same_answer (Some x) (Some y) = same_row x y
-
 -- row `n` stands at or behind entry `i`, and before the next entry
-abbrev pub stands_by : List Entry → ℕ → ℕ → ℕ → Bool
-stands_by es total i n =
-    nat_lt i (length es) && (nat_le (number_at es total i) n && nat_lt n (number_at es total (i + 1)))
+abbrev pub StandsBy : List Entry → ℕ → ℕ → ℕ → Type 0
+StandsBy es total i n =
+    (i < length es) × (number_at es total i ≤ n) × (n < number_at es total (i + 1))
 
 -- every row is found from the entry that it stands by
 abbrev pub Findable : List Entry → ℕ → Rows → Type 0
 Findable es total rows =
-    (i n : ℕ) → T (stands_by es total i n) → T (nat_lt n total && same_answer (found_at es i (n - number_at es total i)) (slice_get rows n))
+    (i n : ℕ) → StandsBy es total i n → (n < total) × (found_at es i (n - number_at es total i) ≡ slice_get rows n)
 
 -- the rows are numbered from 0; behind the last entry, the ends that have come lead up to the innermost open start
 abbrev pub top_from : List Entry → ℕ → ℕ → Option Entry → Option ℕ

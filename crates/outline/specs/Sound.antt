@@ -1,11 +1,13 @@
 -- When the entries of an outline are in order.
 use Rattle.std.specs.Prelude.{◌≡◌, ℕ, zero, suc, ◌+◌, ◌*◌, ◌≤◌, Bool, true, false, ◌&&◌, T, List, [], ◌∷◌, length, take, Some, None, Option, nat_le, nat_lt}
 use Rattle.std.specs.List.{slice_get}
+use Rattle.std.specs.List.Sorted.{IsNonDecreasingBy}
 use Rattle.sheet.specs.Rows.{spent}
 use Rattle.outline.specs.declared.entry.Entry.{Entry}
 use Rattle.outline.specs.declared.entry.Span.{Span}
 use Rattle.outline.specs.declared.entry.Span.TheVariants.{Leaf, Open, Closed}
 use Rattle.outline.specs.Entries.{rows_of, outline_cost}
+use Rattle.outline.specs.Found.{Findable, LeadsUp}
 
 -- the last entry inside a closed start, itself number `k`, is before entry `i`
 abbrev pub span_before : ℕ → ℕ → Span → Bool
@@ -48,3 +50,10 @@ Kept sealed es total starts top =
     × (total + starts ≤ 2 * length es)
     × T (all_before 0 (length es) es)
     × T (chained sealed es starts top)
+
+-- Such entries, by whose numbers each of their rows is found.
+pub record Sound (sealed : ℕ) (es : List Entry) (total starts : ℕ) (top : Option ℕ) : Type 0 where
+  pub kept : Kept sealed es total starts top
+  pub rises : IsNonDecreasingBy (λ e. e.number) es
+  pub finds : Findable es total (rows_of es)
+  pub leads : LeadsUp es total top

@@ -1,6 +1,6 @@
-ghost use Rattle.std.specs.Prelude.{◌≡◌, ◌<◌, T};
+ghost use Rattle.std.specs.Prelude.{◌≡◌, ◌<◌};
 ghost use Rattle.std.specs.List.{slice_get};
-ghost use Rattle.outline.specs.Found.{number_at, around_at, climbed, end_at, found_at, stands_by};
+ghost use Rattle.outline.specs.Found.{number_at, around_at, climbed, end_at, found_at, StandsBy};
 ghost use Rattle.outline.specs.Outlines.{outline_sealed, sealed_entries};
 
 use super::Outline;
@@ -8,76 +8,52 @@ use crate::entry::{Entry, Span, end_row, innermost};
 use record::row::PlacedRow;
 
 impl<'a> Outline<'a> {
+    fn sealed_entries(&self) -> &[Entry]
+        ensures { result.now ≡ sealed_entries self.now }
+    {
+        &self.roll.as_slice()[..self.sealed]
+    }
+
     fn sealed_entry(&self, i: usize) -> Option<Entry>
         ensures { result ≡ slice_get (sealed_entries self.now) i }
     {
-        if i < self.sealed {
-            self.roll.get(i)
-        } else {
-            None
-        }
+        self.sealed_entries().get(i).copied()
     }
 
     // The number of an entry's row; past the last entry, the number of all rows.
     fn number_at(&self, i: usize) -> usize
         ensures { result ≡ number_at (sealed_entries self.now) self.now.count i }
     {
-        match self.sealed_entry(i) {
-            Some(entry) => entry.number,
-            None => self.count,
-        }
+        self.sealed_entry(i)
+            .map_or(self.count, |entry| entry.number)
     }
 
     // The last entry whose row is not behind row `n`.
     fn entry_by(&self, n: usize) -> usize
         requires { n < self.now.count }
-        ensures { T (stands_by (sealed_entries self.now) self.now.count result n) }
+        ensures { StandsBy (sealed_entries self.now) self.now.count result n }
     {
-        let mut low = 0;
-        let mut high = self.sealed;
-        while high - low > 1 {
-            let middle = low + (high - low) / 2;
-            if self.number_at(middle) <= n {
-                low = middle;
-            } else {
-                high = middle;
-            }
-        }
-        low
+        self.sealed_entries()
+            .partition_point(|entry| entry.number <= n)
+            - 1
     }
 
     fn around(&self, start: Option<usize>) -> Option<usize>
         ensures { result ≡ around_at (sealed_entries self.now) start }
     {
-        let Some(i) = start else {
-            return None;
-        };
-        match self.sealed_entry(i) {
-            Some(entry) => entry.around,
-            None => None,
-        }
+        self.sealed_entry(start?)?.around
     }
 
     fn climb(&self, start: Option<usize>, steps: usize) -> Option<usize>
         ensures { result ≡ climbed (sealed_entries self.now) steps start }
     {
-        let mut here = start;
-        for _step in 0..steps {
-            here = self.around(here);
-        }
-        here
+        (0..steps).fold(start, |here, _| self.around(here))
     }
 
     fn end_at(&self, start: Option<usize>) -> Option<PlacedRow>
         ensures { result ≡ end_at (sealed_entries self.now) start }
     {
-        let Some(i) = start else {
-            return None;
-        };
-        let Some(entry) = self.sealed_entry(i) else {
-            return None;
-        };
-        match entry.span {
+        match self.sealed_entry(start?)?.span {
             Span::Closed { end, .. } => Some(end_row(end)),
             Span::Leaf | Span::Open => None,
         }
@@ -87,9 +63,7 @@ impl<'a> Outline<'a> {
     fn found_at(&self, i: usize, k: usize) -> Option<PlacedRow>
         ensures { result ≡ found_at (sealed_entries self.now) i k }
     {
-        let Some(entry) = self.sealed_entry(i) else {
-            return None;
-        };
+        let entry = self.sealed_entry(i)?;
         if k == 0 {
             return Some(entry.row);
         }

@@ -1,3 +1,4 @@
 pub mod Drafts
+pub mod Each
 pub mod Pairs
 pub mod Puts

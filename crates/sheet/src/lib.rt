@@ -11,6 +11,7 @@ use record::refusal::Refusal;
 use record::row::PlacedRow;
 
 pub mod copy;
+pub mod rows;
 pub mod tail;
 pub mod through;
 
@@ -30,6 +31,7 @@ pub trait Readable {
 
 // A sheet is a readable that also takes rows. It shows its sealed rows; behind them it has a draft, which grows by
 // put and goes whole, by seal behind the sealed rows or by drop. Its rows together cost no more than its capacity.
+// Kept: the clauses spell out what `meaning` says elsewhere, for a definition that names a trait cannot stand in the trait.
 pub trait Sheet: Readable {
     ghost draft: { Self → List PlacedRow };
 

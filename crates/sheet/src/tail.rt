@@ -13,6 +13,7 @@ pub struct Tail {
     starts: usize,
 }
 
+#[tactic(auto, unfolding(crate::specs::Rows::well_formed))]
 fn is_well_formed(row: Row) -> bool
     ensures { result ≡ well_formed row }
 {
@@ -27,6 +28,7 @@ fn is_well_formed(row: Row) -> bool
 
 impl Tail {
     // The tail of an empty draft.
+    #[tactic(auto, unfolding(crate::specs::Rows::open_in, crate::specs::Rows::last_place, crate::specs::Tails::tail_of))]
     pub fn new() -> Tail
         ensures { result ≡ tail_of [] }
     {
@@ -45,10 +47,7 @@ impl Tail {
     fn is_below(self, place: u32) -> bool
         ensures { result ≡ is_above self.last place }
     {
-        match self.last {
-            Some(last) => last < place,
-            None => true,
-        }
+        self.last.is_none_or(|last| last < place)
     }
 
     fn can_close(self, row: PlacedRow) -> bool
@@ -57,6 +56,7 @@ impl Tail {
         row.row.kind != u32::from(Kind::End) || self.starts > 0
     }
 
+    #[tactic(auto, unfolding(crate::specs::Sheets::follows))]
     fn can_follow(self, row: PlacedRow) -> bool
         ensures { result ≡ follows self.last self.starts row }
     {
@@ -64,6 +64,7 @@ impl Tail {
     }
 
     // Whether a sheet takes a row behind this tail.
+    #[tactic(auto, unfolding(crate::specs::Tails::tail_refusal))]
     pub fn judge(self, row: PlacedRow, has_room: bool) -> Result<(), Refusal>
         ensures { result ≡ judged self row has_room }
     {
@@ -77,6 +78,7 @@ impl Tail {
     }
 
     // The tail of the draft with one more row.
+    #[tactic(auto, unfolding(crate::specs::Tails::tail_behind))]
     pub fn behind(self, row: PlacedRow) -> Tail
         requires { self.starts + 1 < 2 ^ 64 }
         ensures { result ≡ tail_behind self row }

@@ -9,7 +9,7 @@ unfolding rows_of
 invariant_of-result c =
     let few : slot_count c.new.result < 2 ^ 63 = search rules in
     let a = new_all (items c.new.result) c.new-2.result c.new.ensures.items c.new-2.ensures in
-    record { few = few; within = a.0; kept = a.1.0; finds = a.1.1.0; leads = a.1.1.1.0; keptbefore = a.1.1.1.1.0; findsbefore = a.1.1.1.1.1.0; leadsbefore = a.1.1.1.1.1.1.0; front = a.1.1.1.1.1.1.1.0; drafted = a.1.1.1.1.1.1.1.1.0 }
+    record { few = few; within = a.within; sound = a.sound; sound_before = a.sound_before; front = a.front; drafted = a.drafted }
 
 pub returns : goal.returns
 unfolding rows_of

@@ -2,7 +2,7 @@ use Rattle.std.proofs.Common.{◌≡◌, ◌-◌, true, length, set, sym, refl, 
 use Rattle.roll.specs.Rolls.{items}
 use Rattle.roll.proofs.Fits.{items_fit}
 use Rattle.outline.specs.Entries.{rows_of}
-use Rattle.outline.proofs.Nths.{nth_lt}
+use Rattle.std.proofs.lemmas.Option.{slice_get_within}
 use Rattle.outline.proofs.Keeps.{all_of, few-rows, opened, top-some, top_entry, end-rows, end_all}
 use Rattle.outline.proofs.Outline.put_end.Goals as goal
 
@@ -18,7 +18,7 @@ returns-in_default-get c =
 
 pub overflow_sub-between-2 : goal.overflow_sub-between-2
 overflow_sub-between-2 c =
-    let a = nth_lt (items c.args.self.now.roll) c.in-Some.at c.in-Some-get.start (sym c.in-Some-get.ensures) in
+    let a = slice_get_within (items c.args.self.now.roll) c.in-Some.at c.in-Some-get.start (sym c.in-Some-get.ensures) in
     omega (arith, c.len.ensures)
 
 pub overflow_add-self : goal.overflow_add-self
@@ -39,7 +39,7 @@ invariant_of-self c =
     let inside : c.len.result - 1 - c.in-Some.at ≡ length (items c.args.self.now.roll) - 1 - c.in-Some.at = ap (λ n. n - 1 - c.in-Some.at) c.len.ensures in
     let shut = c.set.ensures.items ∙ ap (set (items c.args.self.now.roll) c.in-Some.at) c.closed_by.ensures in
     let a = end_all _ _ _ _ _ _ (all_of c.args.self.now) c.args.row true c.requires.fine c.requires.ends c.in-Some.at c.in-Some.is c.in-Some-get.start (sym c.in-Some-get.ensures) _ inside _ _ shut c.behind-self.ensures in
-    record { few = rw c.set.ensures.slots c.args.self.now.few; within = a.0; kept = a.1.0; finds = a.1.1.0; leads = a.1.1.1.0; keptbefore = a.1.1.1.1.0; findsbefore = a.1.1.1.1.1.0; leadsbefore = a.1.1.1.1.1.1.0; front = a.1.1.1.1.1.1.1.0; drafted = a.1.1.1.1.1.1.1.1.0 }
+    record { few = rw c.set.ensures.slots c.args.self.now.few; within = a.within; sound = a.sound; sound_before = a.sound_before; front = a.front; drafted = a.drafted }
 
 pub returns : goal.returns
 returns c =

@@ -22,7 +22,7 @@ invariant_of-self c =
     let more : items c.push.new.self ≡ items c.args.self.now.roll ++ entry_of c.args.row c.args.self.now.total c.args.self.now.top ∷ [] = c.push.ensures.items ∙ cond-true _ _ _ (c.push.ensures.answer ∙ lt-ltb _ _ c.requires.room) ∙ ap (λ e. items c.args.self.now.roll ++ e ∷ []) c.entry_of-entry.ensures in
     let up : c.top_behind-self.result ≡ top_behind c.args.row (length (items c.args.self.now.roll)) c.args.self.now.top = c.top_behind-self.ensures ∙ ap (λ n. top_behind c.args.row n c.args.self.now.top) c.len.ensures in
     let a = entry_all _ _ _ _ _ _ (all_of c.args.self.now) c.args.row true c.requires.fine c.requires.stays _ _ _ more up c.behind-self.ensures in
-    record { few = rw c.push.ensures.slots c.args.self.now.few; within = a.0; kept = a.1.0; finds = a.1.1.0; leads = a.1.1.1.0; keptbefore = a.1.1.1.1.0; findsbefore = a.1.1.1.1.1.0; leadsbefore = a.1.1.1.1.1.1.0; front = a.1.1.1.1.1.1.1.0; drafted = a.1.1.1.1.1.1.1.1.0 }
+    record { few = rw c.push.ensures.slots c.args.self.now.few; within = a.within; sound = a.sound; sound_before = a.sound_before; front = a.front; drafted = a.drafted }
 
 pub returns : goal.returns
 returns c =

@@ -25,7 +25,7 @@ put_entry-requires c =
     let other : is_end c.args.row ≡ false = ne_eqb _ _ (λ e. c.if-row-from.false (e ∙ sym c.from.ensures)) in
     let one : cost_of outline_cost c.args.row ≡ 1 = grind arith in
     let fits = leb-true _ _ (sym c.has_room.ensures ∙ room) in
-    record { fine = c.in_ok-judge.ensures ∙ ap (judged c.args.self.now.tail c.args.row) room; stays = other; room = omega (arith, c.args.self.now.kept.1) }
+    record { fine = c.in_ok-judge.ensures ∙ ap (judged c.args.self.now.tail c.args.row) room; stays = other; room = omega (arith, c.args.self.now.sound.kept.1) }
 
 pub returns-then-row-from : goal.returns-then-row-from
 returns-then-row-from c =

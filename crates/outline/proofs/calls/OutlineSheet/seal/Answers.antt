@@ -14,11 +14,11 @@ pub invariant_of-self : goal.invariant_of-self
 invariant_of-self c =
     let shut : c.args.self.now.tail.starts ≡ 0 = eqb-true c.args.self.now.tail.starts 0 (sym c.is_closed.ensures ∙ c.if-not-is_closed.false) in
     let a = seal_all _ _ _ _ _ _ (all_of c.args.self.now) _ _ c.len-self.ensures shut c.new-self.ensures in
-    record { few = c.args.self.now.few; within = a.0; kept = a.1.0; finds = a.1.1.0; leads = a.1.1.1.0; keptbefore = a.1.1.1.1.0; findsbefore = a.1.1.1.1.1.0; leadsbefore = a.1.1.1.1.1.1.0; front = a.1.1.1.1.1.1.1.0; drafted = a.1.1.1.1.1.1.1.1.0 }
+    record { few = c.args.self.now.few; within = a.within; sound = a.sound; sound_before = a.sound_before; front = a.front; drafted = a.drafted }
 
 pub returns : goal.returns
 returns c =
     let shut : c.args.self.now.tail.starts ≡ 0 = eqb-true c.args.self.now.tail.starts 0 (sym c.is_closed.ensures ∙ c.if-not-is_closed.false) in
-    let all = c.args.self.now.kept.0 in
+    let all = c.args.self.now.sound.kept.0 in
     let q = seal_accepted _ _ (rows_of (items c.args.self.now.roll)) c.args.self.now.drafted (slot_count c.args.self.now.roll) outline_cost c.args.self.now.total (c.args.self.now.total - c.args.self.now.count) (sym all) (ap (λ n. n - c.args.self.now.count) (sym all)) shut in
     record { answer = q.0; meaning = q.1 }
