@@ -1,8 +1,6 @@
 -- The items and parts of a byte string, by its longest front without a separator.
-use Rattle.std.proofs.Common.{◌≡◌, ℕ, Bool, zero, suc, ◌+◌, ◌<◌, ◌≤◌, min, true, false, cond, not, ◌||◌, eqb, ltb, List, [], ◌∷◌, length, get_or, take, drop, codes, sym, refl, ap, ◌∙◌, one-add, arith, lt-ltb}
-use Prim.Native.Nat.compare
+use Rattle.std.proofs.Common.{◌≡◌, ℕ, Bool, suc, ◌+◌, ◌<◌, min, true, false, cond, not, ◌||◌, eqb, List, [], ◌∷◌, length, take, drop, sym, refl, ap, ◌∙◌, one-add, arith}
 use Rattle.std.specs.List.{prefix_len, list_any}
-use Rattle.std.specs.Str.{bytes_eq}
 use Rattle.std.proofs.lemmas.List.Folds.{length-prefix_len}
 use Rattle.text.specs.Bytes.{Bytes}
 use Rattle.items.specs.Items.{is_empty, is_blank, is_colon, cut_at, parts, non_empty, items, has_colon, two_parts, prefix_part, local_part}
@@ -86,25 +84,19 @@ prefix-front (b ∷ bs) =
     elim (is_colon b) as (λ v. (cond {A = Bytes × Bytes} v ([], bs) (b ∷ (two_parts bs).0, (two_parts bs).1)).0 ≡ take (cond (not v) (1 + prefix_len in_part bs) 0) (b ∷ bs))
     [ true ↦ refl | false ↦ rw one-add (ap (λ (t : Bytes). b ∷ t) (prefix-front bs)) ]
 
--- what stands behind the first byte
-behind : Bytes → Bytes
-behind [] = []
-behind (b ∷ bs) = bs
-
-local_front : (s : Bytes) → local_part s ≡ behind (drop (prefix_len in_part s) s)
-unfolding local_part two_parts behind
+local_front : (s : Bytes) → local_part s ≡ drop 1 (drop (prefix_len in_part s) s)
+unfolding local_part two_parts
 local_front [] = refl
 local_front (b ∷ bs) =
-    elim (is_colon b) as (λ v. (cond {A = Bytes × Bytes} v ([], bs) (b ∷ (two_parts bs).0, (two_parts bs).1)).1 ≡ behind (drop (cond (not v) (1 + prefix_len in_part bs) 0) (b ∷ bs)))
+    elim (is_colon b) as (λ v. (cond {A = Bytes × Bytes} v ([], bs) (b ∷ (two_parts bs).0, (two_parts bs).1)).1 ≡ drop 1 (drop (cond (not v) (1 + prefix_len in_part bs) 0) (b ∷ bs)))
     [ true ↦ refl | false ↦ rw one-add (local_front bs) ]
 
-behind-drop : (s : Bytes) → behind s ≡ drop (min (length s) 1) s
-unfolding behind
-behind-drop [] = refl
-behind-drop (b ∷ bs) = let e : min (suc (length bs)) 1 ≡ 1 = omega arith in rw e
+drop-one : (s : Bytes) → drop 1 s ≡ drop (min (length s) 1) s
+drop-one [] = refl
+drop-one (b ∷ bs) = let e : min (suc (length bs)) 1 ≡ 1 = omega arith in rw e
 
 pub local_rest : (s rest : Bytes) → rest ≡ drop (prefix_len in_part s) s → local_part s ≡ drop (min (length rest) 1) rest
-local_rest s rest e = local_front s ∙ ap behind (sym e) ∙ behind-drop rest
+local_rest s rest e = local_front s ∙ ap (drop 1) (sym e) ∙ drop-one rest
 
 pub empty_length : (s : Bytes) → is_empty s ≡ eqb (length s) 0
 unfolding is_empty

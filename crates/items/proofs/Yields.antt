@@ -1,7 +1,7 @@
 -- The items that a list reader yields, for a chain of iterators over it.
 use Rattle.std.proofs.Common.{◌≡◌, length, ap, subst}
 use Rattle.std.proofs.lemmas.Iterator.{YieldsList}
-use Rattle.std.proofs.lemmas.Iterator.Consumers.{YieldsList-at, YieldsList-from_shown}
+use Rattle.std.proofs.lemmas.Iterator.Consumers.{YieldsList-from_shown}
 use Rattle.text.specs.Bytes.{Bytes}
 use Rattle.items.specs.Items.{items}
 use Rattle.items.specs.Unread.{unread, unread_items, GivesItem}

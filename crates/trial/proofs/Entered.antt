@@ -1,5 +1,5 @@
 -- One entry more in scope.
-use Rattle.std.proofs.Common.{◌≡◌, suc, ◌+◌, ◌-◌, List, [], ◌∷◌, ◌++◌, map, reverse, length, take, drop, Some, None, Option, sym, refl, ap, ◌∙◌, append_assoc, add-one, arith}
+use Rattle.std.proofs.Common.{◌≡◌, suc, ◌+◌, ◌-◌, List, [], ◌∷◌, ◌++◌, map, reverse, length, take, drop, Some, None, Option, refl, ap, ◌∙◌, append_assoc, add-one, arith}
 use mathlib.Core.List.{reverse-cons}
 use Rattle.std.proofs.lemmas.List.{map_push, reverse-append, length_push, length-append, take_at, drop_at}
 use Rattle.text.specs.Bytes.{Bytes}

@@ -1,8 +1,7 @@
 -- The first fault of an item of ProcessContent.
-use Rattle.std.proofs.Common.{◌≡◌, ℕ, cond, List, ◌∷◌, ◌++◌, Some, None, Option, sym, ap, ◌∙◌, append_assoc}
+use Rattle.std.proofs.Common.{◌≡◌, ℕ, cond, List, Some, None, ap, ◌∙◌, append_assoc}
 use Rattle.std.specs.Option.{option_or}
 use Rattle.text.specs.Bytes.{Bytes}
-use Rattle.record.specs.declared.refusal.Refusal.{Refusal}
 use Rattle.record.specs.declared.refusal.Refusal.TheVariants.{ScopeFull}
 use Rattle.rules.specs.Scope.{Binding}
 use Rattle.rules.specs.Faults.{fault, is_full, process_item, first}
