@@ -2,7 +2,7 @@ ghost use Rattle.std.specs.Prelude.{◌≡◌, length};
 ghost use Rattle.std.specs.Iterator.{item_count};
 ghost use Rattle.items.specs.Unread.{unread, unread_items, GivesItem};
 
-use crate::run::Run;
+use crate::run::{is_blank, split_run};
 
 // Reads the items of a list value one after the other.
 #[derive(Clone, Copy)]
@@ -33,8 +33,8 @@ impl<'a> Iterator for Items<'a> {
     ghost remaining = { item_count unread_items };
 
     fn next(&mut self) -> Option<&'a [u8]> {
-        let (_, from) = self.rest.split_at(Run::Blanks.length(self.rest));
-        let (item, rest) = from.split_at(Run::Item.length(from));
+        let (_, from) = split_run(self.rest, is_blank);
+        let (item, rest) = split_run(from, |b| !is_blank(b));
         self.rest = rest;
         if item.is_empty() {
             return None;

@@ -30,12 +30,7 @@ fn is_prefix_understood(prefix: &[u8], lent: Texts<'_>, u: &Understood, bindings
 pub fn all_understood(value: &[u8], lent: Texts<'_>, u: &Understood, bindings: &[Bound]) -> bool
     ensures { (knows : Knows) → Knowing (texts lent.entry) knows u.now → result ≡ all_understood knows (named (bindings_of (texts lent.entry) bindings.now) (items value.now)) }
 {
-    for item in Items::of(value) {
-        if !is_prefix_understood(item, lent, u, bindings) {
-            return false;
-        }
-    }
-    true
+    Items::of(value).all(|item| is_prefix_understood(item, lent, u, bindings))
 }
 
 // Whether all namespaces that an element requires are understood; the bindings are those at the element.

@@ -1,29 +1,17 @@
-use Rattle.std.proofs.Common.{rules}
+use Rattle.std.proofs.Common.{◌∙◌, rules}
+use borrow.Author.Tests.{tests}
+use Rattle.std.proofs.lemmas.Iterator.Search.{all_from_yields_List}
 use Rattle.file.specs.Texts.{texts}
-use Rattle.rules.specs.Scope.{named}
-use Rattle.rules.specs.Steps.{all_understood}
+use Rattle.items.specs.Items.{items}
+use Rattle.items.proofs.Yields.{YieldsList-from_items}
 use Rattle.scope.specs.Entries.{bindings_of}
-use Rattle.verdict.proofs.Items.{item_turn}
+use Rattle.verdict.proofs.Items.{is_item_understood, all_items_understood}
 use Rattle.verdict.proofs.required.all_understood.Goals as goal
 
-pub returns-then-not-is_prefix_understood : goal.returns-then-not-is_prefix_understood
-returns-then-not-is_prefix_understood c =
-    λ knows k.
-    let t = item_turn knows (bindings_of (texts c.args.lent) c.args.bindings.now) c.in-Some.item.now _ _ _ (c.loop-item.invariant knows k) c.in-Some.ensures.steps.item in
-    let p = c.if-not-is_prefix_understood.ensures knows k in
-    search rules
-
-pub loop-item-preserved : goal.loop-item-preserved
-loop-item-preserved c =
-    λ knows k.
-    let t = item_turn knows (bindings_of (texts c.args.lent) c.args.bindings.now) c.in-Some.item.now _ _ _ (c.loop-item.invariant knows k) c.in-Some.ensures.steps.item in
-    let p = c.if-not-is_prefix_understood.ensures knows k in
-    search rules
-
 pub returns : goal.returns
-unfolding named all_understood
 returns c =
     λ knows k.
-    let i = c.loop-item.invariant knows k in
-    let e = c.in-None.ensures.steps.item.0 in
-    search rules
+    let bindings = bindings_of (texts c.args.lent) c.args.bindings.now in
+    let value = c.args.value.now in
+    all_from_yields_List (is_item_understood knows bindings) _ _ c.all.result c.all.ensures.ran (YieldsList-from_items c.of.result value c.of.ensures) (λ x b q m. search (rules, tests))
+    ∙ all_items_understood knows bindings (items value)

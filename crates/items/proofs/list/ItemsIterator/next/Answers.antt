@@ -1,28 +1,26 @@
-use Rattle.std.proofs.Common.{ℕ, List, ◌++◌, length, ap, ◌∙◌, rules}
-use Rattle.std.proofs.lemmas.List.Sums.{prefix_len-le-length}
-use Rattle.items.proofs.Fronts.{next_some, next_none}
+use Rattle.std.proofs.Common.{◌≡◌, ℕ, List, ◌++◌, length, ap, ◌∙◌, length-append, rules}
+use Rattle.items.specs.Items.{is_blank}
+use Rattle.items.specs.Unread.{unread}
+use Rattle.items.proofs.Fronts.{in_item, next_some, next_none}
 use Rattle.items.proofs.list.ItemsIterator.next.Goals as goal
-
-pub split_at-requires : goal.split_at-requires
-split_at-requires c = search (rules, prefix_len-le-length)
-
-pub split_at-requires-2 : goal.split_at-requires-2
-split_at-requires-2 c = search (rules, prefix_len-le-length)
 
 pub returns-then-is_empty : goal.returns-then-is_empty
 returns-then-is_empty c =
-    let e = next_none _ _ _ _ _ _ c.length.ensures c.split_at.ensures.back c.length-2.ensures c.split_at-2.ensures.front c.split_at-2.ensures.back (search rules) in
+    let f = c.split_run.ensures.run is_blank (λ b r k. search rules) in
+    let i = c.split_run-2.ensures.run in_item (λ b r k. search rules) in
+    let e = next_none (unread c.args.self.now) c.split_run.result.1.now c.split_run-2.result.0.now c.split_run-2.result.1.now f.1 i.0 i.1 (search rules) in
+    let p : unread c.args.self.now ≡ c.split_run.result.0.now ++ (c.split_run-2.result.0.now ++ c.split_run-2.result.1.now) =
+    c.split_run.ensures.whole ∙ ap (λ (t : List ℕ). c.split_run.result.0.now ++ t) c.split_run-2.ensures.whole in
+    let n = simp length-append at (ap length p) in
     search rules
 
 pub returns : goal.returns
 returns c =
-    let e = next_some _ _ _ _ _ _ c.length.ensures c.split_at.ensures.back c.length-2.ensures c.split_at-2.ensures.front c.split_at-2.ensures.back (search rules) in
-    let n = ap length e in
-    record {
-      goes = search rules;
-      steps = record {
-        item = e;
-        less = search rules;
-        place = (c.split_at.result.0.now, c.split_at.ensures.by_index.0 ∙ ap (λ (t : List ℕ). c.split_at.result.0.now ++ t) c.split_at-2.ensures.by_index.0);
-      };
-    }
+    let f = c.split_run.ensures.run is_blank (λ b r k. search rules) in
+    let i = c.split_run-2.ensures.run in_item (λ b r k. search rules) in
+    let e = next_some (unread c.args.self.now) c.split_run.result.1.now c.split_run-2.result.0.now c.split_run-2.result.1.now f.1 i.0 i.1 (search rules) in
+    let p : unread c.args.self.now ≡ c.split_run.result.0.now ++ (c.split_run-2.result.0.now ++ c.split_run-2.result.1.now) =
+    c.split_run.ensures.whole ∙ ap (λ (t : List ℕ). c.split_run.result.0.now ++ t) c.split_run-2.ensures.whole in
+    let n = simp length-append at (ap length p) in
+    let m = ap length e in
+    record { goes = search rules; steps = record { item = e; less = search rules; place = (c.split_run.result.0.now, p) } }
