@@ -1,5 +1,5 @@
 -- What the calls on an open record come to, where the draft is the record's.
-use Rattle.std.proofs.Common.{◌≡◌, ℕ, ◌≤◌, Bool, true, false, ◌⊎◌, List, [], ◌∷◌, ◌++◌, length, Some, None, Ok, Err, fold, Option, Result, sym, refl, ap, ◌∙◌, subst, inl, inr, arith}
+use Rattle.std.proofs.Common.{◌≡◌, ℕ, ◌≤◌, Bool, true, false, ◌⊎◌, List, [], ◌∷◌, ◌++◌, length, Some, None, Err, fold, Option, sym, refl, ap, ◌∙◌, subst, inl, inr, arith, rules}
 use mathlib.Core.List.{reverse_aux}
 use Rattle.std.proofs.lemmas.Bool.{ne_eqb}
 use Rattle.record.specs.declared.row.Row.{Row}
@@ -16,10 +16,10 @@ use Rattle.rules.specs.Elements.{Attr, Token, tag, text, end, tokens}
 use Rattle.rules.specs.Scope.{Scope}
 use Rattle.rules.specs.Steps.{kept_rows}
 use Rattle.rules.specs.Mismatches.{mark, attr_marks, element_marks, marks_of, mismatches}
-use Rattle.rules.specs.Faults.{fault, first, faults}
+use Rattle.rules.specs.Faults.{first, faults}
 use Rattle.rules.specs.Order.{has_ended, row_faults, Accepted}
 use Rattle.rules.specs.Records.{judged, draft}
-use Rattle.rules.specs.Lists.{In}
+use Rattle.rules.proofs.Members.{Every, every_none, every_append, every_fault}
 use Rattle.rules.proofs.Whole.{first-none, all_judged}
 use Rattle.rules.proofs.Stable.{what_a_row_lets_be_judged}
 use Rattle.rules.proofs.Pairs.{kept_rows_pair}
@@ -47,66 +47,45 @@ not_of_sheet e s = ne_eqb (numbered e).number 23 (λ q. let k = s.1 in omega ari
 
 -- Numbers of refusals.
 
-abbrev All : (Refusal → Type 0) → List Refusal → Type 0
-All P [] = Unit {0}
-All P (e ∷ es) = P e × All P es
-
-both : (P : Refusal → Type 0) (a b : List Refusal) → All P a → All P b → All P (a ++ b)
-both P [] b h k = k
-both P (e ∷ a) b h k = (h.0, both P a b h.1 k)
-
-all_in : (P : Refusal → Type 0) (e : Refusal) (es : List Refusal) → All P es → In e es → P e
-all_in P e [] h i = absurd i
-all_in P e (x ∷ es) h (inl q) = subst P (sym q) h.0
-all_in P e (x ∷ es) h (inr i) = all_in P e es h.1 i
-
 -- 9 to 12, of a row before it is judged
 abbrev pub Early : Refusal → Type 0
 Early e = (9 ≤ (numbered e).number) × ((numbered e).number ≤ 12)
 
-one-fault : (b : Bool) (e : Refusal) → Early e → All Early (fault b e)
-unfolding fault
-one-fault true e h = (h, tt)
-one-fault false e h = tt
-
-all_early : (b : Begun) (r : Row) → All Early (faults_at b r)
+all_early : (b : Begun) (r : Row) → Every Early (faults_at b r)
 unfolding row_faults
-all_early b r =
-    both Early _ _ (both Early _ _ (both Early _ _ (one-fault _ _ (omega arith, omega arith)) (one-fault _ _ (omega arith, omega arith)))
-    (one-fault _ _ (omega arith, omega arith))) (one-fault _ _ (omega arith, omega arith))
+all_early b r = search (rules, every_append, every_fault)
 
 pub row-numbered : (b : Begun) (r : Row) (e : Refusal) → first (faults_at b r) ≡ Some e → Early e
-row-numbered b r e q = all_in Early e (faults_at b r) (all_early b r) (first_in e _ q)
+row-numbered b r e q = (all_early b r).at e (first_in e _ q)
 
 -- 22, of a mismatch
 abbrev Mismatched : Refusal → Type 0
 Mismatched e = (numbered e).number ≡ 22
 
-one-mark : (b : Bool) (p : ℕ) (c : Cause) → All Mismatched (mark b p c)
+one-mark : (b : Bool) (p : ℕ) (c : Cause) → Every Mismatched (mark b p c)
 unfolding mark
-one-mark true p c = (refl, tt)
-one-mark false p c = tt
+one-mark true p c = record { at = λ x i. elim i [ inl e ↦ ap (λ r. (numbered r).number) e | inr j ↦ absurd j ] }
+one-mark false p c = every_none
 
-attrs-numbered : (K : Knows) (h k : Bool) (s : Scope) (xs : List Attr) → All Mismatched (attr_marks K h k s xs)
+attrs-numbered : (K : Knows) (h k : Bool) (s : Scope) (xs : List Attr) → Every Mismatched (attr_marks K h k s xs)
 unfolding attr_marks
-attrs-numbered K h k s [] = tt
-attrs-numbered K h k s (x ∷ xs) =
-    both Mismatched _ _ (both Mismatched _ _ (one-mark _ _ _) (one-mark _ _ _)) (attrs-numbered K h k s xs)
+attrs-numbered K h k s [] = every_none
+attrs-numbered K h k s (x ∷ xs) = let i = attrs-numbered K h k s xs in search (rules, every_append, one-mark)
 
-token_numbered : (K : Knows) (ext : List Name) (t : Token) (past : List Token) → All Mismatched (marks_of K ext t past)
+token_numbered : (K : Knows) (ext : List Name) (t : Token) (past : List Token) → Every Mismatched (marks_of K ext t past)
 unfolding marks_of element_marks
-token_numbered K ext (tag t) past = both Mismatched _ _ (both Mismatched _ _ (one-mark _ _ _) (one-mark _ _ _)) (attrs-numbered K _ _ _ _)
-token_numbered K ext (text x) past = tt
-token_numbered K ext (end x) past = tt
+token_numbered K ext (tag t) past = search (rules, every_append, one-mark, attrs-numbered)
+token_numbered K ext (text x) past = every_none
+token_numbered K ext (end x) past = every_none
 
-marks-numbered : (K : Knows) (ext : List Name) (toks : List Token) → All Mismatched (mismatches K ext toks)
+marks-numbered : (K : Knows) (ext : List Name) (toks : List Token) → Every Mismatched (mismatches K ext toks)
 unfolding mismatches
-marks-numbered K ext [] = tt
-marks-numbered K ext (t ∷ past) = both Mismatched _ _ (marks-numbered K ext past) (token_numbered K ext t past)
+marks-numbered K ext [] = every_none
+marks-numbered K ext (t ∷ past) = every_append (marks-numbered K ext past) (token_numbered K ext t past)
 
 pub mark-numbered : (b : Begun) (e : Refusal) → first (marks_in b) ≡ Some e → (numbered e).number ≡ 22
 mark-numbered b e q =
-    all_in Mismatched e (marks_in b) (marks-numbered b.taken.knows b.taken.extensions (tokens_of b)) (first_in e _ q)
+    (marks-numbered b.taken.knows b.taken.extensions (tokens_of b)).at e (first_in e _ q)
 
 -- A row.
 
@@ -175,17 +154,13 @@ module _ (b : Begun) (r : Row) (m : Model) where
       go (fit_anywhere (last_place m.draft) (open_in m.draft) k.0 (adds b r) k.1 (adds-formed b r w) (adds-loose b r))
       (tokens-end b.taken m (fresh b r) (judged (tokens_of b)))
     where
-      ok_err : (x : Result (Unit {0}) Refusal) (u : Unit {0}) → x ≡ Ok u → x ≡ Err e → ⊥
-      ok_err x u p q = let z : ◌≡◌ {A = ℕ} 0 1 = cc in omega arith
-
-      err_same : (x : Result (Unit {0}) Refusal) (d : Refusal) → x ≡ Err d → x ≡ Err e → d ≡ e
-      err_same x d p q = cc
-
       go : FitIn m (adds b r) ⊎ FirstCannot (last_place m.draft) (open_in m.draft) (adds b r) → Ends (row_put b r m) → (row_put b r m).sheet ≡ m
       go (inr f) h = unfold adds in (tokens-stop b.taken m (fresh b r) (judged (tokens_of b)) f).1
-      go (inl f) (inl h) = absurd (ok_err _ tt h.0 a)
+      go (inl f) (inl h) = absurd (cc)
       go (inl f) (inr h) =
-          let s = h.4 (unfold adds in f) in let q = ap (λ d. (numbered d).number) (err_same _ h.0 h.1 a) in
+          let s = h.4 (unfold adds in f) in
+          let d : h.0 ≡ e = cc in
+          let q = ap (λ d. (numbered d).number) d in
           let l = s.1 in absurd (omega arith)
 
 -- Finish.

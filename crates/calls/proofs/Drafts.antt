@@ -1,6 +1,7 @@
 -- The draft of a record whose rows were accepted, and what one row more adds to it.
-use Rattle.std.proofs.Common.{◌≡◌, ℕ, suc, Bool, true, false, ◌||◌, ◌⊎◌, List, [], ◌∷◌, ◌++◌, map, length, Some, None, Option, sym, refl, ap, ◌∙◌, subst, inl, inr, arith}
+use Rattle.std.proofs.Common.{◌≡◌, ℕ, suc, Bool, true, false, ◌||◌, List, [], ◌∷◌, ◌++◌, length, Some, None, Option, sym, refl, ap, ◌∙◌, subst, inl, inr, arith}
 use Rattle.std.proofs.lemmas.Bool.{and_parts}
+use Rattle.std.proofs.lemmas.List.{map-append}
 use Rattle.text.specs.Bytes.{Bytes}
 use Rattle.record.specs.declared.row.Row.{Row}
 use Rattle.record.specs.declared.row.PlacedRow.{PlacedRow}
@@ -10,16 +11,16 @@ use Rattle.record.specs.Rows.{kind_of}
 use Rattle.knowledge.specs.Understood.{Knows}
 use Rattle.card.specs.Cards.{Name}
 use Rattle.sheet.specs.Rows.{formed, well_formed}
-use Rattle.rules.specs.Elements.{Decl, Attr, Tag, Token, tag, text, end, placed_at, tokens, around, decl_row, attr_row, tag_rows}
-use Rattle.rules.specs.Steps.{when, kept_tag, tag_kept, kept_of, kept_rows}
+use Rattle.rules.specs.Elements.{Tag, Token, tag, text, end, placed_at, tokens, around}
+use Rattle.rules.specs.Steps.{when, tag_kept, kept_of, kept_rows}
 use Rattle.rules.specs.Order.{is_shaped, is_well_formed, Accepted}
 use Rattle.rules.specs.Records.{judged, waiting, newly_judged, draft}
-use Rattle.rules.specs.Lists.{In, Sub, none, skip, same, RisesFrom, opens, open_after}
-use Rattle.rules.proofs.Members.{sub_refl, sub_left, sub_append, in_sub, in_right, map_append}
-use Rattle.rules.proofs.Rows.{IsKind, DeclsTrue, AttrsTrue, TokenTrue, AllTrue, all_true}
-use Rattle.rules.proofs.Rise.{kept_rows_rise, kept_rows_are_well_formed, decls-part, attrs-part}
+use Rattle.rules.specs.Lists.{In, Sub, RisesFrom, open_after}
+use Rattle.rules.proofs.Members.{sub_refl, sub_left, in_sub, in_right}
+use Rattle.rules.proofs.Rows.{IsKind, TokenTrue, AllTrue, all_true}
+use Rattle.rules.proofs.Rise.{kept_rows_rise, kept_rows_are_well_formed}
 use Rattle.rules.proofs.Stable.{what_a_row_lets_be_judged}
-use Rattle.rules.proofs.Pairs.{open_append, kept_rows_pair}
+use Rattle.rules.proofs.Pairs.{open_append, tally, tag-opens, text-opens, end-opens, kept_rows_pair}
 use Rattle.calls.specs.Calls.{Taken, Begun, tokens_of, fresh}
 use Rattle.calls.proofs.Fits.{Fit, fit_whole, places_of, AllFormed, Loose}
 use Rattle.calls.proofs.Judging.{newly, newly-kept}
@@ -56,91 +57,32 @@ module _ (texts : List Bytes) (K : Knows) (ext : List Name) (rows : List Row) (w
 
 -- Of the rows that a row adds, no end lacks its start, unless it is the only one.
 
-abbrev Flat : List PlacedRow → Type 0
-Flat [] = Unit {0}
-Flat (x ∷ xs) = (IsKind Declaration x ⊎ IsKind Attribute x) × Flat xs
-
-flat_append : (a b : List PlacedRow) → Flat a → Flat b → Flat (a ++ b)
-flat_append [] b h k = k
-flat_append (x ∷ a) b h k = (h.0, flat_append a b h.1 k)
-
-flat_sub : {a b : List PlacedRow} → Sub PlacedRow a b → Flat b → Flat a
-flat_sub none h = h
-flat_sub (skip s) h = flat_sub s h.1
-flat_sub (same s) h = (h.0, flat_sub s h.1)
-
-flat-decls : (ds : List Decl) → DeclsTrue ds → Flat (map decl_row ds)
-unfolding decl_row
-flat-decls [] h = tt
-flat-decls (d ∷ ds) h = (inl h.0, flat-decls ds h.1)
-
-flat-attrs : (texts : List Bytes) (xs : List Attr) → AttrsTrue texts xs → Flat (map attr_row xs)
-unfolding attr_row
-flat-attrs texts [] h = tt
-flat-attrs texts (x ∷ xs) h = (inr h.0.0, flat-attrs texts xs h.1)
-
-open_flat : (n : ℕ) (xs : List PlacedRow) → Flat xs → open_after (Some n) xs ≡ Some n
-open_flat n [] h = refl
-open_flat n (x ∷ xs) h = go h.0 (open_flat n xs h.1)
-  where
-    go : IsKind Declaration x ⊎ IsKind Attribute x → open_after (Some n) xs ≡ Some n → open_after (Some n) (x ∷ xs) ≡ Some n
-    go (inl e) f = ap (λ k. open_after (opens k (Some n)) xs) e ∙ f
-    go (inr e) f = ap (λ k. open_after (opens k (Some n)) xs) e ∙ f
-
-one : Bool → ℕ
-one true = 1
-one false = 0
-
-tag-opens : (K : Knows) (texts : List Bytes) (x k : Bool) (igs : List Bytes) (t : Tag) → TokenTrue texts (tag t)
-    → open_after (Some 0) (tag_kept K x k igs t) ≡ Some (one (x || k))
-unfolding tag_kept tag_rows kept_tag one
-tag-opens K texts x k igs t h = go x k
-  where
-    flat : Flat (map decl_row t.decls ++ map attr_row t.attrs)
-    flat = flat_append _ _ (flat-decls t.decls h.1) (flat-attrs texts t.attrs h.2)
-
-    start : (xs : List PlacedRow) → Flat xs → open_after (Some 0) (t.placed ∷ xs) ≡ Some 1
-    start xs f = ap (λ k. open_after (opens k (Some 0)) xs) h.0.0 ∙ open_flat 1 xs f
-
-    go : (x k : Bool) → open_after (Some 0) (tag_kept K x k igs t) ≡ Some (one (x || k))
-    go true k = start _ flat
-    go false true = start _ (flat_sub (sub_append (decls-part K igs t.decls) (attrs-part K igs t.attrs)) flat)
-    go false false = refl
-
-text-opens : (b : Bool) (n : ℕ) (x : PlacedRow) → IsKind Text x → open_after (Some n) (when b x) ≡ Some n
-unfolding when
-text-opens true n x e = ap (λ k. opens k (Some n)) e
-text-opens false n x e = refl
-
-end-opens : (b : Bool) (x : PlacedRow) → IsKind End x → open_after (Some (one b)) (when b x) ≡ Some 0
-unfolding when one
-end-opens true x e = ap (λ k. opens k (Some 1)) e
-end-opens false x e = refl
-
 loose-one : (b : Bool) (x : PlacedRow) → Loose (when b x)
 unfolding when
 loose-one true x = inl refl
 loose-one false x = inl tt
 
-tag-text : (K : Knows) (texts : List Bytes) (x k b : Bool) (igs : List Bytes) (t : Tag) (y : PlacedRow) → TokenTrue texts (tag t) → IsKind Text y
-    → Loose (tag_kept K x k igs t ++ when b y)
-tag-text K texts x k b igs t y h e =
-    inr (
-      one (x || k),
-      open_append (Some 0) (tag_kept K x k igs t) (when b y)
-          ∙ ap (λ o. open_after o (when b y)) (tag-opens K texts x k igs t h) ∙ text-opens b (one (x || k)) y e,
-    )
-
-tag-end : (K : Knows) (texts : List Bytes) (x k : Bool) (igs : List Bytes) (t : Tag) (y : PlacedRow) → TokenTrue texts (tag t) → IsKind End y
-    → Loose (tag_kept K x k igs t ++ when (x || k) y)
-tag-end K texts x k igs t y h e =
-    inr (
-      0,
-      open_append (Some 0) (tag_kept K x k igs t) (when (x || k) y)
-          ∙ ap (λ o. open_after o (when (x || k) y)) (tag-opens K texts x k igs t h) ∙ end-opens (x || k) y e,
-    )
-
 module _ (t : Taken) where
+  tag-text : (x k b : Bool) (igs : List Bytes) (s : Tag) (y : PlacedRow) → TokenTrue t.texts (tag s) → IsKind Text y
+      → Loose (tag_kept t.knows x k igs s ++ when b y)
+  tag-text x k b igs s y h e =
+      inr (
+        tally (x || k) 0,
+        open_append (Some 0) (tag_kept t.knows x k igs s) (when b y)
+            ∙ ap (λ o. open_after o (when b y)) (tag-opens t.knows t.extensions t.texts x k igs s 0 h)
+            ∙ text-opens t.knows t.extensions t.texts b y (tally (x || k) 0) e,
+      )
+
+  tag-end : (x k : Bool) (igs : List Bytes) (s : Tag) (y : PlacedRow) → TokenTrue t.texts (tag s) → IsKind End y
+      → Loose (tag_kept t.knows x k igs s ++ when (x || k) y)
+  tag-end x k igs s y h e =
+      inr (
+        0,
+        open_append (Some 0) (tag_kept t.knows x k igs s) (when (x || k) y)
+            ∙ ap (λ o. open_after o (when (x || k) y)) (tag-opens t.knows t.extensions t.texts x k igs s 0 h)
+            ∙ end-opens t.knows t.extensions t.texts (x || k) y 0 e,
+      )
+
   loose : (k : Option Kind) (x : PlacedRow) (toks : List Token) → kind_of x.row.kind ≡ k → AllTrue t.texts toks
       → Loose (newly t (newly_judged k x toks) (judged toks))
   unfolding newly newly_judged waiting judged kept_of around
@@ -148,15 +90,15 @@ module _ (t : Taken) where
   loose (Some Declaration) x toks e h = inl tt
   loose (Some Attribute) x toks e h = inl tt
   loose (Some Start) x [] e h = inl tt
-  loose (Some Start) x (tag y ∷ past) e h = inr (_, tag-opens t.knows t.texts _ _ _ y h.0)
+  loose (Some Start) x (tag y ∷ past) e h = inr (_, tag-opens t.knows t.extensions t.texts _ _ _ y 0 h.0)
   loose (Some Start) x (text y ∷ past) e h = inl tt
   loose (Some Start) x (end y ∷ past) e h = inl tt
   loose (Some Text) x [] e h = loose-one _ x
-  loose (Some Text) x (tag y ∷ past) e h = tag-text t.knows t.texts _ _ _ _ y x h.0 e
+  loose (Some Text) x (tag y ∷ past) e h = tag-text _ _ _ _ y x h.0 e
   loose (Some Text) x (text y ∷ past) e h = loose-one _ x
   loose (Some Text) x (end y ∷ past) e h = loose-one _ x
   loose (Some End) x [] e h = loose-one _ x
-  loose (Some End) x (tag y ∷ past) e h = tag-end t.knows t.texts _ _ _ y x h.0 e
+  loose (Some End) x (tag y ∷ past) e h = tag-end _ _ _ y x h.0 e
   loose (Some End) x (text y ∷ past) e h = loose-one _ x
   loose (Some End) x (end y ∷ past) e h = loose-one _ x
 
@@ -195,7 +137,7 @@ module _ (b : Begun) (r : Row) where
     unfolding draft_of
     adds_rises =
         rises_right 0 (places_of (draft_of b.rows)) (places_of adds)
-        (subst (RisesFrom 0) (ap places_of draft-more ∙ map_append _ (draft_of b.rows) adds)
+        (subst (RisesFrom 0) (ap places_of draft-more ∙ map-append _ (draft_of b.rows) adds)
         (kept_rows_rise b.taken.texts b.taken.knows b.taken.extensions (r ∷ b.rows) w).0.1)
 
   pub adds-loose : Loose adds

@@ -2,6 +2,7 @@
 use Rattle.std.proofs.Common.{◌≡◌, ℕ, zero, suc, ◌+◌, ◌-◌, ◌<◌, ◌≤◌, Bool, true, false, cond, not, ◌||◌, eqb, ltb, ◌⊎◌, List, [], ◌∷◌, ◌++◌, map, Some, None, Ok, Err, fold, Option, Result, sym, refl, ap, ◌∙◌, subst, inl, inr, append_assoc, append-nil, arith}
 use mathlib.Core.Bool.{false≢true}
 use Rattle.std.proofs.lemmas.Bool.{and_from, lt-ltb, eqb-true}
+use Rattle.std.proofs.lemmas.Option.{none-some, same_Some}
 use Rattle.record.specs.declared.row.PlacedRow.{PlacedRow}
 use Rattle.record.specs.declared.row.Kind.{Kind}
 use Rattle.record.specs.declared.row.Kind.TheVariants.{Start, Declaration, Attribute, Text, End}
@@ -16,12 +17,6 @@ use Rattle.rules.specs.Lists.{In, RisesFrom, opens, open_after}
 
 -- The two notions of pairing: an end that has a start closes one.
 
-some_same : (a b : ℕ) → ◌≡◌ {A = Option ℕ} (Some a) (Some b) → a ≡ b
-some_same a b e = cc
-
-none-some : (a : ℕ) → ◌≡◌ {A = Option ℕ} None (Some a) → ⊥
-none-some a e = let z : ◌≡◌ {A = ℕ} 0 1 = cc in omega arith
-
 abbrev pub kind_by : Bool → Bool → Bool → Bool → Bool → Option Kind
 kind_by a b c d e = cond a (Some Start) (cond b (Some Declaration) (cond c (Some Attribute) (cond d (Some Text) (cond e (Some End) None))))
 
@@ -34,15 +29,15 @@ not-both k i j l p q = let x = eqb-true k i p in let y = eqb-true k j q in omega
 opens_by : (k n j : ℕ) (a b c d e : Bool) → eqb k 1 ≡ a → eqb k 2 ≡ b → eqb k 3 ≡ c → eqb k 4 ≡ d → eqb k 5 ≡ e
     → opens (kind_by a b c d e) (Some n) ≡ Some j → Steps a e n j
 opens_by k n j true b c d true p q r s t h = absurd (not-both k 1 5 (omega arith) p t)
-opens_by k n j true b c d false p q r s t h = let z = some_same (suc n) j h in (refl, omega arith)
+opens_by k n j true b c d false p q r s t h = let z = same_Some (suc n) j h in (refl, omega arith)
 opens_by k n j false true c d true p q r s t h = absurd (not-both k 2 5 (omega arith) q t)
-opens_by k n j false true c d false p q r s t h = (refl, some_same n j h)
+opens_by k n j false true c d false p q r s t h = (refl, same_Some n j h)
 opens_by k n j false false true d true p q r s t h = absurd (not-both k 3 5 (omega arith) r t)
-opens_by k n j false false true d false p q r s t h = (refl, some_same n j h)
+opens_by k n j false false true d false p q r s t h = (refl, same_Some n j h)
 opens_by k n j false false false true true p q r s t h = absurd (not-both k 4 5 (omega arith) s t)
-opens_by k n j false false false true false p q r s t h = (refl, some_same n j h)
+opens_by k n j false false false true false p q r s t h = (refl, same_Some n j h)
 opens_by k zero j false false false false true p q r s t h = absurd (none-some j h)
-opens_by k (suc n) j false false false false true p q r s t h = let z = some_same n j h in (lt-ltb 0 (suc n) (omega arith), omega arith)
+opens_by k (suc n) j false false false false true p q r s t h = let z = same_Some n j h in (lt-ltb 0 (suc n) (omega arith), omega arith)
 opens_by k n j false false false false false p q r s t h = absurd (none-some j h)
 
 pub opens-behind : (n j : ℕ) (x : PlacedRow) → opens (kind_of x.row.kind) (Some n) ≡ Some j → (closes n x ≡ true) × (open_behind n x ≡ j)
@@ -64,7 +59,7 @@ open_first n k x xs h = go (opens (kind_of x.row.kind) (Some n)) refl
         (s.0, ap (λ i. open_after (Some i) xs) s.1 ∙ ap (λ o. open_after o xs) (sym q) ∙ h)
 
 pub open_folded : (n k : ℕ) (xs : List PlacedRow) → open_after (Some n) xs ≡ Some k → fold open_behind n xs ≡ k
-open_folded n k [] h = some_same n k h
+open_folded n k [] h = same_Some n k h
 open_folded n k (x ∷ xs) h = open_folded (open_behind n x) k xs (open_first n k x xs h).1
 
 pub open_closes : (n k : ℕ) (xs : List PlacedRow) → open_after (Some n) xs ≡ Some k → all_close n xs ≡ true
@@ -78,18 +73,18 @@ open_pairs xs h = and_from _ _ (open_closes 0 0 xs h) (ap (λ n. eqb n 0) (open_
 
 -- more starts before
 more-opens : (k : Option Kind) (n j d : ℕ) → opens k (Some n) ≡ Some j → opens k (Some (n + d)) ≡ Some (j + d)
-more-opens (Some Start) n j d h = let z = some_same (suc n) j h in ap Some (omega arith)
-more-opens (Some Declaration) n j d h = ap (λ i. Some (i + d)) (some_same n j h)
-more-opens (Some Attribute) n j d h = ap (λ i. Some (i + d)) (some_same n j h)
-more-opens (Some Text) n j d h = ap (λ i. Some (i + d)) (some_same n j h)
+more-opens (Some Start) n j d h = let z = same_Some (suc n) j h in ap Some (omega arith)
+more-opens (Some Declaration) n j d h = ap (λ i. Some (i + d)) (same_Some n j h)
+more-opens (Some Attribute) n j d h = ap (λ i. Some (i + d)) (same_Some n j h)
+more-opens (Some Text) n j d h = ap (λ i. Some (i + d)) (same_Some n j h)
 more-opens (Some End) zero j d h = absurd (none-some j h)
 more-opens (Some End) (suc n) j d h =
-    let z = some_same n j h in
+    let z = same_Some n j h in
     ap (λ i. opens (Some End) (Some i)) (let q : suc n + d ≡ suc (n + d) = omega arith in q) ∙ ap Some (omega arith)
 more-opens None n j d h = absurd (none-some j h)
 
 pub open_more : (n k d : ℕ) (xs : List PlacedRow) → open_after (Some n) xs ≡ Some k → open_after (Some (n + d)) xs ≡ Some (k + d)
-open_more n k d [] h = ap (λ i. Some (i + d)) (some_same n k h)
+open_more n k d [] h = ap (λ i. Some (i + d)) (same_Some n k h)
 open_more n k d (x ∷ xs) h = go (opens (kind_of x.row.kind) (Some n)) refl (λ j. open_more j k d xs)
   where
     go : (o : Option ℕ) → opens (kind_of x.row.kind) (Some n) ≡ o

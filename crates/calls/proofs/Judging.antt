@@ -21,7 +21,7 @@ abbrev pub Spoils : Refusal → Type 0
 Spoils e = (13 ≤ (numbered e).number) × ((numbered e).number ≤ 21)
 
 pub first_in : {X : Type 0} (x : X) (xs : List X) → first xs ≡ Some x → In x xs
-first_in x [] h = let z : ◌≡◌ {A = ℕ} 0 1 = cc in absurd (omega arith)
+first_in x [] h = absurd (cc)
 first_in x (y ∷ xs) h = inl (cc)
 
 -- A refusal: nothing is sealed; it is 13 to 21 or 23, and 13 to 21 if the rows fit.

@@ -24,15 +24,6 @@ use Rattle.calls.proofs.Judging.{Spoils, TokensEnd, tokens-end}
 use Rattle.calls.proofs.Cases.{faults_at, marks_in, row-numbered, mark-numbered, not_of_sheet, others-sheet, RowCase, row_case, FinishCase, finish_case}
 use Rattle.calls.proofs.Holds.{Holds, holds, FileCase, file_case}
 
-refused-same : (a b : Refusal) → ◌≡◌ {A = Answer} (Refused a) (Refused b) → a ≡ b
-refused-same a b e = cc
-
-done-not : (e : Refusal) → ◌≡◌ {A = Answer} Done (Refused e) → ⊥
-done-not e h = let z : ◌≡◌ {A = ℕ} 0 1 = cc in omega arith
-
-added-not : (n : ℕ) (e : Refusal) → ◌≡◌ {A = Answer} (Added n) (Refused e) → ⊥
-added-not n e h = let z : ◌≡◌ {A = ℕ} 0 1 = cc in omega arith
-
 -- A row.
 
 abbrev RowLeaves : Reading → Model → Out → Refusal → Type 0
@@ -90,8 +81,8 @@ pub row_refusals_leave : RowRefusalsLeave
 row_refusals_leave rd r m e w a = go (row_ends rd r m w)
   where
     go : RowEnds rd m (row_on rd r m) → RowLeaves rd m (row_on rd r m) e
-    go (inl h) = absurd (done-not e (sym h ∙ a))
-    go (inr h) = subst (RowLeaves rd m (row_on rd r m)) (refused-same h.0 e (sym (row-answer rd m (row_on rd r m) h.0 h.1) ∙ a)) h.1
+    go (inl h) = absurd (cc)
+    go (inr h) = let q = row-answer rd m (row_on rd r m) h.0 h.1 in let s : h.0 ≡ e = cc in subst (RowLeaves rd m (row_on rd r m)) s h.1
 
 -- Finish.
 
@@ -137,9 +128,8 @@ pub finish_refusals_leave : FinishRefusalsLeave
 finish_refusals_leave rd m e a = go (finish-ends rd m)
   where
     go : FinishEnds rd m (finish_on rd m) → FinishLeaves rd m (finish_on rd m) e
-    go (inl h) = absurd (added-not h.0 e (sym h.1 ∙ a))
-    go (inr h) =
-        subst (FinishLeaves rd m (finish_on rd m)) (refused-same h.0 e (sym (finish-answer rd m (finish_on rd m) h.0 h.1) ∙ a)) h.1
+    go (inl h) = absurd (cc)
+    go (inr h) = let q = finish-answer rd m (finish_on rd m) h.0 h.1 in let s : h.0 ≡ e = cc in subst (FinishLeaves rd m (finish_on rd m)) s h.1
 
 -- In a run no call is refused with 23.
 
@@ -147,13 +137,13 @@ abbrev NoSheets : Answer → Type 0
 NoSheets a = (e : Refusal) → a ≡ Refused e → IsOfSheet e → ⊥
 
 not_23 : (d : Refusal) → (numbered d).number ≤ 22 → NoSheets (Refused d)
-not_23 d l e q h = let k = ap (λ x. (numbered x).number) (refused-same d e q) in omega arith
+not_23 d l e q h = let s : d ≡ e = cc in let k = ap (λ x. (numbered x).number) s in omega arith
 
 done-fine : NoSheets Done
-done-fine e q h = done-not e q
+done-fine e q h = cc
 
 added-fine : (n : ℕ) → NoSheets (Added n)
-added-fine n e q h = added-not n e q
+added-fine n e q h = cc
 
 begin-fine : (rd : Reading) (t : Taken) (m : Model) → NoSheets (begin_on rd t m).answer
 unfolding begin_on

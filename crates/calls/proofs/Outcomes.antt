@@ -58,14 +58,8 @@ all_put m (x ∷ xs) f r =
 
 -- Of tokens that fit and for which there is room, the first refusal is the rules'.
 
-err_same : (x : Result (Unit {0}) Refusal) (d e : Refusal) → x ≡ Err d → x ≡ Err e → d ≡ e
-err_same x d e p q = cc
-
-ok_not : (e : Refusal) (u : Unit {0}) → ◌≡◌ {A = Result (Unit {0}) Refusal} (Ok u) (Err e) → ⊥
-ok_not e u h = let z : ◌≡◌ {A = ℕ} 0 1 = cc in omega arith
-
 first-left : (e : Refusal) (a b : List Refusal) → first a ≡ Some e → first (a ++ b) ≡ Some e
-first-left e [] b h = let z : ◌≡◌ {A = ℕ} 0 1 = cc in absurd (omega arith)
+first-left e [] b h = absurd (cc)
 first-left e (x ∷ a) b h = h
 
 module _ (t : Taken) where
@@ -79,13 +73,13 @@ module _ (t : Taken) where
   one-first m x past f r e a = go (first (faults_of t.knows t.extensions x past)) a
     where
       go : (o : Option Refusal) → (put_unless o m (kept_of t.knows t.extensions x past)).answer ≡ Err e → o ≡ Some e
-      go (Some d) q = ap Some (err_same _ d e refl q)
-      go None q = absurd (ok_not e tt (sym (all_put m _ f r) ∙ q))
+      go (Some d) q = cc
+      go None q = let p = all_put m _ f r in absurd (cc)
 
   pub tokens-first : (m : Model) (new past : List Token) → FitIn m (newly t new past) → Roomy m (newly t new past) → all_faults past ≡ []
       → (e : Refusal) → (tokens_put t m new past).answer ≡ Err e → first (all_faults (new ++ past)) ≡ Some e
   unfolding tokens_put newly faults
-  tokens-first m [] past f r g e a = absurd (ok_not e tt a)
+  tokens-first m [] past f r g e a = absurd (cc)
   tokens-first m (x ∷ xs) past f r g e a =
       go (tokens_put t m xs past) (tokens-end t m xs past)
       (tokens-first m xs past (fit_left _ _ (newly t xs past) kept f) (roomy-left m (newly t xs past) kept r) g)

@@ -1,7 +1,8 @@
 -- What a finish or a file that is accepted seals.
-use Rattle.std.proofs.Common.{◌≡◌, ℕ, true, false, ◌⊎◌, List, [], ◌∷◌, ◌++◌, length, Some, Option, sym, refl, ap, ◌∙◌, subst, inl, inr}
+use Rattle.std.proofs.Common.{◌≡◌, ℕ, true, false, ◌⊎◌, List, [], ◌∷◌, ◌++◌, length, sym, refl, ap, ◌∙◌, subst, inl, inr}
 use mathlib.Core.Bool.{false≢true}
-use mathlib.Core.List.{tail}
+use Rattle.std.proofs.lemmas.List.{append_cancel_left}
+use Rattle.std.proofs.lemmas.Option.{same_Some}
 use Rattle.text.specs.Bytes.{Bytes}
 use Rattle.record.specs.declared.row.Row.{Row}
 use Rattle.record.specs.declared.row.PlacedRow.{PlacedRow}
@@ -102,19 +103,12 @@ pub step_seals : (new : New) (c : Call) (past : List Call)
 step_seals new c past = any_seals (events new past) (after new past).sheet c (after new past).reading (holds new past)
 
 -- a call ends one record
-some_same : (a b : Begun) → ◌≡◌ {A = Option Begun} (Some a) (Some b) → a ≡ b
-some_same a b e = cc
-
 ends_same : (c : Call) (past : List Event) (i j : ℕ) (b d : Begun) → Ends c past i b → Ends c past j d → (i ≡ j) × (b ≡ d)
 ends_same (begin t) past i j b d h k = absurd h
 ends_same (row r) past i j b d h k = absurd h
-ends_same (file bytes K ext) past i j b d h k = (h.0 ∙ sym k.0, some_same b d (sym h.1 ∙ k.1))
-ends_same finish past i j b d h k = (h.0 ∙ sym k.0, some_same b d (sym h.1 ∙ k.1))
+ends_same (file bytes K ext) past i j b d h k = (h.0 ∙ sym k.0, same_Some b d (sym h.1 ∙ k.1))
+ends_same finish past i j b d h k = (h.0 ∙ sym k.0, same_Some b d (sym h.1 ∙ k.1))
 ends_same abandon past i j b d h k = absurd h
-
-cancel : {A : Type 0} (a b c : List A) → a ++ b ≡ a ++ c → b ≡ c
-cancel [] b c e = e
-cancel (x ∷ a) b c e = cancel a b c (ap tail e)
 
 -- what is sealed are the kept rows of a record without mismatch
 pub record Kept (c : Call) (rd : Reading) (b : Begun) (rows : List PlacedRow) : Type 0 where
@@ -132,7 +126,7 @@ last-kept new c past i b rows h = go (step_seals new c past)
     go (inr x) =
         let q : x.1 ≡ b = (ends_same c (events new past) x.0 i x.1 b x.2 h.0).1 in
         record {
-          are = cancel (sealed_by new past) rows (kept_in b) (sym h.2 ∙ x.4 ∙ ap (λ y. sealed_by new past ++ kept_in y) q);
+          are = append_cancel_left (sealed_by new past) rows (kept_in b) (sym h.2 ∙ x.4 ∙ ap (λ y. sealed_by new past ++ kept_in y) q);
           sealable = subst Sealable q x.5;
           was = subst (Was c (after new past).reading) q x.6;
         }

@@ -1,6 +1,7 @@
 -- Two readers that get the same calls.
 use Rattle.std.proofs.Common.{◌≡◌, ℕ, suc, ◌<◌, ◌≤◌, Bool, true, false, cond, eqb, ◌⊎◌, List, [], ◌∷◌, length, Some, None, Ok, Err, Option, Result, sym, refl, ap, ◌∙◌, subst, subst₂, inl, inr, arith}
 use Rattle.std.proofs.lemmas.Bool.{eq-eqb, ne_eqb}
+use Rattle.std.proofs.lemmas.Option.{none-some, same_Some}
 use Rattle.text.specs.Bytes.{Bytes}
 use Rattle.record.specs.declared.row.Row.{Row}
 use Rattle.record.specs.declared.row.PlacedRow.{PlacedRow}
@@ -237,26 +238,20 @@ told-alike i (more {c} {d} {past} {other} s ss) =
     subst (λ l. Alike (onward c (eqb (length past) i) (told i past)) (onward d (eqb l i) (told i other))) (same_length ss)
     (onward-alike s (eqb (length past) i) (told-alike i ss))
 
-some_same : (a b : Begun) → ◌≡◌ {A = Option Begun} (Some a) (Some b) → a ≡ b
-some_same a b e = cc
-
-some-none : (b : Begun) → ◌≡◌ {A = Option Begun} (Some b) None → ⊥
-some-none b e = let z : ◌≡◌ {A = ℕ} 0 1 = cc in omega arith
-
 both_told : {o o' : Option Begun} → Alike o o' → (b b' : Begun) → o ≡ Some b → o' ≡ Some b' → Like b b'
-both_told neither b b' p q = absurd (some-none b (sym p))
-both_told (alike {b = d} {b' = d'} a) b b' p q = subst₂ Like (some_same d b p) (some_same d' b' q) a
+both_told neither b b' p q = absurd (cc)
+both_told (alike {b = d} {b' = d'} a) b b' p q = subst₂ Like (same_Some d b p) (same_Some d' b' q) a
 
 one_told : {o o' : Option Begun} → Alike o o' → (b : Begun) → ((o ≡ None) × (o' ≡ Some b)) ⊎ ((o ≡ Some b) × (o' ≡ None)) → ⊥
-one_told neither b (inl p) = some-none b (sym p.1)
-one_told neither b (inr p) = some-none b (sym p.0)
-one_told (alike {b = d} {b' = d'} a) b (inl p) = some-none d p.0
-one_told (alike {b = d} {b' = d'} a) b (inr p) = some-none d' p.1
+one_told neither b (inl p) = none-some b p.1
+one_told neither b (inr p) = none-some b p.0
+one_told (alike {b = d} {b' = d'} a) b (inl p) = none-some d (sym p.0)
+one_told (alike {b = d} {b' = d'} a) b (inr p) = none-some d' (sym p.1)
 
 file-like : (c : Result Contents Refusal) (ext : List Name) (K K' : Knows) → Wider K K' → (b b' : Begun)
     → record_in c K ext ≡ Some b → record_in c K' ext ≡ Some b' → Like b b'
-file-like (Err e) ext K K' w b b' p q = absurd (some-none b (sym p))
-file-like (Ok f) ext K K' w b b' p q = subst₂ Like (some_same _ b p) (some_same _ b' q) (like _ ext _ w)
+file-like (Err e) ext K K' w b b' p q = absurd (cc)
+file-like (Ok f) ext K K' w b b' p q = subst₂ Like (same_Some _ b p) (same_Some _ b' q) (like _ ext _ w)
 
 module _ (new new' : New) where
   both-last : {c d : Call} {past other : List Call} → SameCall c d → SameCalls past other → (i : ℕ) (b b' : Begun) (xs ys : List PlacedRow)

@@ -1,6 +1,7 @@
 -- Mismatches come in the order of their places, one to a row; the refusals of an element are numbered 13 to 20.
 use Rattle.std.proofs.Common.{◌≡◌, ℕ, zero, suc, ◌≤◌, Bool, true, false, not, ◌&&◌, List, [], ◌∷◌, ◌++◌, map, sym, refl, ap, ◌∙◌, subst, inl, inr, arith}
 use mathlib.Core.Bool.{false≢true}
+use Rattle.std.proofs.lemmas.List.{map-append}
 use Rattle.record.specs.declared.row.PlacedRow.{PlacedRow}
 use Rattle.record.specs.declared.refusal.Cause.{Cause}
 use Rattle.record.specs.declared.refusal.Cause.TheVariants.{MustUnderstand, StrayChild, ForeignName}
@@ -16,7 +17,7 @@ use Rattle.rules.specs.Steps.{is_foreign, is_kept_attr, all_understood, reached,
 use Rattle.rules.specs.Mismatches.{mark, attr_marks, stray_child, element_marks, marks_of, mismatches}
 use Rattle.rules.specs.Lists.{In, Sub, none, skip, same, RisesFrom}
 use Rattle.rules.specs.Laws.{OneCause, MismatchesRise}
-use Rattle.rules.proofs.Members.{map_append, sub_refl, sub_none, sub_append, sub_trans, rises_sub, rises_in, in_map}
+use Rattle.rules.proofs.Members.{sub_refl, sub_none, sub_append, sub_trans, rises_sub, rises_in, in_map}
 use Rattle.rules.proofs.Names.{must-mc}
 use Rattle.rules.proofs.Rows.{rows_of, all_rows, all_rows_lem, place_in, places_rise}
 
@@ -30,7 +31,7 @@ one-mark false false p c d e = skip none
 
 sub_two : (xs ys : List Refusal) (ps qs : List ℕ) → Sub ℕ (map place_of xs) ps → Sub ℕ (map place_of ys) qs
     → Sub ℕ (map place_of (xs ++ ys)) (ps ++ qs)
-sub_two xs ys ps qs s u = subst (λ l. Sub ℕ l (ps ++ qs)) (sym (map_append place_of xs ys)) (sub_append s u)
+sub_two xs ys ps qs s u = subst (λ l. Sub ℕ l (ps ++ qs)) (sym (map-append place_of xs ys)) (sub_append s u)
 
 attr_places : List Attr → List ℕ
 attr_places [] = []
@@ -84,7 +85,7 @@ all_marks : (K : Knows) (ext : List Name) (toks : List Token) → Sub ℕ (map p
 unfolding mismatches all_rows
 all_marks K ext [] = none
 all_marks K ext (t ∷ past) =
-    subst (λ l. Sub ℕ (map place_of (mismatches K ext past ++ marks_of K ext t past)) l) (sym (map_append place_in (all_rows past) (rows_of t)))
+    subst (λ l. Sub ℕ (map place_of (mismatches K ext past ++ marks_of K ext t past)) l) (sym (map-append place_in (all_rows past) (rows_of t)))
     (sub_two (mismatches K ext past) (marks_of K ext t past) _ _ (all_marks K ext past) (token_marks K ext t past))
 
 pub mismatches_rise : MismatchesRise

@@ -4,11 +4,6 @@ use Rattle.std.specs.Option.{option_or}
 use Rattle.record.specs.declared.refusal.Refusal.{Refusal}
 use Rattle.rules.specs.Faults.{fault, first}
 
-pub first-fault : (b : Bool) (r : Refusal) (rest : List Refusal) → first (fault b r ++ rest) ≡ cond b (Some r) (first rest)
-unfolding fault
-first-fault true r rest = refl
-first-fault false r rest = refl
-
 pub first_one : (b : Bool) (r : Refusal) → first (fault b r) ≡ cond b (Some r) None
 unfolding fault
 first_one true r = refl

@@ -1,7 +1,7 @@
 -- The frames of the open elements follow step by step, and what a token keeps follows from them.
 use Rattle.std.proofs.Common.{◌≡◌, ℕ, zero, suc, Bool, true, false, cond, not, ◌&&◌, ◌||◌, List, [], ◌∷◌, drop, is_some, Some, None, Option, sym, refl, ap, ◌∙◌, ap₂, arith}
-use mathlib.Core.Bool.{false≢true}
 use mathlib.Core.List.{tail}
+use Rattle.std.proofs.Math.Seq.{drop-nil}
 use Rattle.text.specs.Bytes.{Bytes}
 use Rattle.text.specs.Names.{in_mc, element_named}
 use Rattle.text.specs.declared.names.McElement.{McElement}
@@ -14,7 +14,8 @@ use Rattle.rules.specs.Steps.{is_dispensable, is_ignored, is_selected, choice_se
 use Rattle.rules.specs.Faults.{any_choice, any_fallback}
 use Rattle.rules.specs.States.{Frame, state_by, state_in, is_extension_state, is_alternate_state, is_ignored_state, is_kept_state, keeps_text, keeps_end, heeds_must, entered_by, tag_kept_in, ground, state_at, entered_at, frame_at, frames_around, frames, reached_in, selected_in, opened_by, opened, noted, ended, step}
 use Rattle.rules.specs.Laws.{StatesFollow}
-use Rattle.rules.proofs.Understood.{out_of_ext}
+use Rattle.rules.proofs.Names.{in-mc}
+use Rattle.rules.proofs.Understood.{out_of_ext, out_in}
 
 -- The child that ends, with its elder siblings.
 
@@ -22,17 +23,13 @@ unfoldable pub family : List Element → List Tag
 family [] = []
 family (e ∷ out) = e.tag ∷ e.elder
 
-drop_nil : (d : ℕ) → drop {A = Element} d [] ≡ []
-drop_nil zero = refl
-drop_nil (suc d) = refl
-
 drop_tail : (d : ℕ) (at : List Element) → drop (suc d) at ≡ drop d (tail at)
-drop_tail d [] = sym (drop_nil d)
+drop_tail d [] = sym (drop-nil d)
 drop_tail d (e ∷ at) = refl
 
 children-up : (d : ℕ) (past : List Token) → children (suc d) past ≡ family (drop d (around past))
 unfolding children family around element
-children-up d [] = ap family (sym (drop_nil d))
+children-up d [] = ap family (sym (drop-nil d))
 children-up d (text x ∷ past) = children-up d past
 children-up d (end x ∷ past) = children-up (suc d) past ∙ ap family (drop_tail d (around past))
 children-up zero (tag t ∷ past) = refl
@@ -149,13 +146,9 @@ tag-by K false None true false false s t = refl
 tag-by K false None false p true s t = refl
 tag-by K false None false p false s t = refl
 
-some-mc : (b : Bool) (m : Option McElement) → is_some (cond b m None) ≡ true → b ≡ true
-some-mc true m e = refl
-some-mc false m e = absurd (false≢true e)
-
 element-mc : (t : Tag) → is_some (mc_element t) ≡ true → in_mc t.namespace ≡ true
 unfolding mc_element
-element-mc t e = some-mc (in_mc t.namespace) (element_named t.name) e
+element-mc t e = in-mc (in_mc t.namespace) (element_named t.name) e
 
 module _ (K : Knows) (ext : List Name) where
   pub mc_not_disp : (igs : List Bytes) (b : Bytes) → in_mc b ≡ true → is_dispensable K igs b ≡ false
@@ -190,10 +183,6 @@ module _ (K : Knows) (ext : List Name) where
   unfolding reached entered
   entered-is e out = grind arith
 
-  out_in : (e : Element) (out : List Element) → in_extension ext (e ∷ out) ≡ false → in_extension ext out ≡ false
-  unfolding in_extension
-  out_in e out h = grind arith
-
   entered_of : (e : Element) (out : List Element) (x : Bool) → in_extension ext (e ∷ out) ≡ x
       → entered_by (state_in K x (scope ext (e ∷ out)) e.tag) (entered_at K ext out && not (is_alternate_state (state_at K ext out) && not (is_branch e.tag))) (selected K ext (e ∷ out))
       ≡ cond x (extension_kept K ext (e ∷ out)) (entered K ext (e ∷ out))
@@ -201,7 +190,7 @@ module _ (K : Knows) (ext : List Name) where
   entered_of e out true h = entered-ext (mc_element e.tag) _ _ _ _ ∙ reach_in e out h
   entered_of e out false h =
       entered_by_lem (mc_element e.tag) _ _ _ _ (some_not_disp (scope ext (e ∷ out)).ignorables e.tag)
-      ∙ ap (λ r. r && not (ignored K ext (e ∷ out)) && not (unselected K ext (e ∷ out))) (reach_of e out (out_in e out h))
+      ∙ ap (λ r. r && not (ignored K ext (e ∷ out)) && not (unselected K ext (e ∷ out))) (reach_of e out (out_in ext e out h))
       ∙ entered-is e out
 
   made : List Element → Bool → Frame

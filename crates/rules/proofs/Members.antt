@@ -1,5 +1,5 @@
 -- Members of lists, lists with some entries left out, and lists of refusals that are empty.
-use Rattle.std.proofs.Common.{◌≡◌, ℕ, suc, ◌<◌, ◌≤◌, Bool, true, false, ◌⊎◌, List, [], ◌∷◌, ◌++◌, map, sym, refl, ap, inl, inr, arith}
+use Rattle.std.proofs.Common.{◌≡◌, ℕ, suc, ◌<◌, ◌≤◌, Bool, true, false, ◌⊎◌, List, [], ◌∷◌, ◌++◌, map, sym, refl, ap, subst, inl, inr, arith}
 use mathlib.Core.Bool.{false≢true}
 use mathlib.Core.List.{nil≢cons}
 use Rattle.record.specs.declared.row.PlacedRow.{PlacedRow}
@@ -20,10 +20,6 @@ pub no_fault : (b : Bool) (r : Refusal) → fault b r ≡ [] → b ≡ false
 unfolding fault
 no_fault true r e = absurd (nil≢cons (sym e))
 no_fault false r e = refl
-
-pub map_append : {A B : Type 0} (f : A → B) (xs ys : List A) → map f (xs ++ ys) ≡ map f xs ++ map f ys
-map_append f [] ys = refl
-map_append f (x ∷ xs) ys = ap (λ l. f x ∷ l) (map_append f xs ys)
 
 pub sub_refl : {A : Type 0} (xs : List A) → Sub A xs xs
 sub_refl [] = none
@@ -81,6 +77,21 @@ pub in_map : {A B : Type 0} (f : A → B) (x : A) (xs : List A) → In x xs → 
 in_map f x [] h = absurd h
 in_map f x (y ∷ xs) (inl e) = inl (ap f e)
 in_map f x (y ∷ xs) (inr h) = inr (in_map f x xs h)
+
+-- P holds of each entry
+pub record Every {A : Type 0} (P : A → Type 0) (xs : List A) : Type 0 where
+  pub at : (x : A) → In x xs → P x
+
+pub every_none : {A : Type 0} {P : A → Type 0} → Every P []
+every_none = record { at = λ x i. absurd i }
+
+pub every_append : {A : Type 0} {P : A → Type 0} {xs ys : List A} → Every P xs → Every P ys → Every P (xs ++ ys)
+every_append {xs = xs} {ys = ys} h k = record { at = λ x i. elim (in_append x xs ys i) [ inl j ↦ h.at x j | inr j ↦ k.at x j ] }
+
+pub every_fault : {P : Refusal → Type 0} (b : Bool) (r : Refusal) → P r → Every P (fault b r)
+unfolding fault
+every_fault {P} true r h = record { at = λ x i. elim i [ inl e ↦ subst P (sym e) h | inr j ↦ absurd j ] }
+every_fault false r h = every_none
 
 pub when-one : (b : Bool) (x : PlacedRow) → Sub PlacedRow (when b x) (x ∷ [])
 unfolding when

@@ -8,7 +8,7 @@ use Rattle.text.specs.declared.names.McAttribute.{McAttribute}
 use Rattle.rules.specs.Elements.{Attr, Tag}
 use Rattle.rules.specs.Scope.{mc_element, alternate, choice, fallback, is_alternate_content, is_choice, is_fallback, is_branch, mc_attribute, must, is_must_understand}
 
-in-mc : (b : Bool) (m : Option McElement) → is_some (cond b m None) ≡ true → b ≡ true
+pub in-mc : (b : Bool) (m : Option McElement) → is_some (cond b m None) ≡ true → b ≡ true
 in-mc true m e = refl
 in-mc false m e = absurd (false≢true e)
 

@@ -1,5 +1,6 @@
 -- A row stands in one place.
 use Rattle.std.proofs.Common.{◌≡◌, ℕ, suc, ◌<◌, ◌≤◌, List, [], ◌∷◌, ◌++◌, map, length, Some, None, Option, sym, ◌∙◌, subst, inl, inr, arith}
+use Rattle.std.proofs.lemmas.List.{map-append}
 use Rattle.text.specs.Bytes.{Bytes}
 use Rattle.record.specs.declared.row.Row.{Row}
 use Rattle.record.specs.declared.row.PlacedRow.{PlacedRow}
@@ -9,7 +10,6 @@ use Rattle.record.specs.Rows.{kind_of}
 use Rattle.rules.specs.Elements.{Decl, Attr, Tag, Token, tag, text, end, start_of, decl_of, attr_of, with_decl, with_attr, on_top, add, placed_at, tokens, Element, decl_row, attr_row, tag_rows}
 use Rattle.rules.specs.Lists.{In}
 use Rattle.rules.specs.Laws.{Stands, StandsOnly}
-use Rattle.rules.proofs.Members.{map_append}
 use Rattle.rules.proofs.Rows.{rows_of}
 
 -- the places of these rows are from m on, and below n
@@ -52,14 +52,14 @@ unfolding tag_rows with_decl
 with_decl_lem m n d t one h =
     let a = within-left m n (map decl_row t.decls) (map attr_row t.attrs) h.1 in
     let b = within_right m n (map decl_row t.decls) (map attr_row t.attrs) h.1 in
-    (h.0, within_append m n _ _ (rw (map_append decl_row t.decls (d ∷ [])) (within_append m n _ _ a one)) b)
+    (h.0, within_append m n _ _ (rw (map-append decl_row t.decls (d ∷ [])) (within_append m n _ _ a one)) b)
 
 with_attr_lem : (m n : ℕ) (x : Attr) (t : Tag) → Within m n (attr_row x ∷ []) → Within m n (tag_rows t) → Within m n (tag_rows (with_attr x t))
 unfolding tag_rows with_attr
 with_attr_lem m n x t one h =
     let a = within-left m n (map decl_row t.decls) (map attr_row t.attrs) h.1 in
     let b = within_right m n (map decl_row t.decls) (map attr_row t.attrs) h.1 in
-    (h.0, within_append m n _ _ a (rw (map_append attr_row t.attrs (x ∷ [])) (within_append m n _ _ b one)))
+    (h.0, within_append m n _ _ a (rw (map-append attr_row t.attrs (x ∷ [])) (within_append m n _ _ b one)))
 
 on-top : (n : ℕ) (f : Tag → Tag) → ((m : ℕ) (t : Tag) → m ≤ n → Within m (suc n) (tag_rows t) → Within m (suc n) (tag_rows (f t)))
     → (toks : List Token) → Apart n toks → Apart (suc n) (on_top f toks)

@@ -67,7 +67,7 @@ module _ (K : Knows) (ext : List Name) (texts : List Bytes) where
   start-opens : (n : ℕ) (x : PlacedRow) (xs : List PlacedRow) → IsKind Start x → Flat xs → open_after (Some n) (x ∷ xs) ≡ Some (suc n)
   start-opens n x xs e h = ap (λ k. open_after (opens k (Some n)) xs) e ∙ open_flat (suc n) xs h
 
-  tag-opens : (x k : Bool) (igs : List Bytes) (t : Tag) (n : ℕ) → TokenTrue texts (tag t)
+  pub tag-opens : (x k : Bool) (igs : List Bytes) (t : Tag) (n : ℕ) → TokenTrue texts (tag t)
       → open_after (Some n) (tag_kept K x k igs t) ≡ Some (tally (x || k) n)
   unfolding tag_kept tag_rows kept_tag tally
   tag-opens true k igs t n h = start-opens n t.placed _ h.0.0 (flat_append _ _ (flat-decls t.decls h.1) (flat-attrs texts t.attrs h.2))
@@ -77,12 +77,12 @@ module _ (K : Knows) (ext : List Name) (texts : List Bytes) where
       (flat_append _ _ (flat-decls t.decls h.1) (flat-attrs texts t.attrs h.2)))
   tag-opens false false igs t n h = refl
 
-  text-opens : (b : Bool) (x : PlacedRow) (n : ℕ) → IsKind Text x → open_after (Some n) (when b x) ≡ Some n
+  pub text-opens : (b : Bool) (x : PlacedRow) (n : ℕ) → IsKind Text x → open_after (Some n) (when b x) ≡ Some n
   unfolding when
   text-opens true x n e = ap (λ k. opens k (Some n)) e
   text-opens false x n e = refl
 
-  end-opens : (b : Bool) (x : PlacedRow) (n : ℕ) → IsKind End x → open_after (Some (tally b n)) (when b x) ≡ Some n
+  pub end-opens : (b : Bool) (x : PlacedRow) (n : ℕ) → IsKind End x → open_after (Some (tally b n)) (when b x) ≡ Some n
   unfolding when tally
   end-opens true x n e = ap (λ k. opens k (Some (suc n))) e
   end-opens false x n e = refl

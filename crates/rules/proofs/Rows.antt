@@ -1,6 +1,8 @@
 -- The rows of tokens are the rows of the record, each where its kind puts it.
-use Rattle.std.proofs.Common.{◌≡◌, ℕ, suc, Bool, true, false, not, List, [], ◌∷◌, ◌++◌, map, length, Some, None, Option, sym, refl, ap, ◌∙◌, subst, append_assoc, append-nil, arith}
+use Rattle.std.proofs.Common.{◌≡◌, ℕ, suc, true, not, List, [], ◌∷◌, ◌++◌, map, length, Some, None, Option, sym, refl, ap, ◌∙◌, subst, append_assoc, append-nil, arith}
 use mathlib.Core.Bool.{false≢true}
+use Rattle.std.proofs.lemmas.Bool.{not-false}
+use Rattle.std.proofs.lemmas.List.{map-append}
 use Rattle.text.specs.Bytes.{Bytes}
 use Rattle.record.specs.declared.row.Row.{Row}
 use Rattle.record.specs.declared.row.PlacedRow.{PlacedRow}
@@ -11,7 +13,7 @@ use Rattle.file.specs.Form.{text_at}
 use Rattle.rules.specs.Elements.{Decl, Attr, Tag, Token, tag, text, end, start_of, decl_of, attr_of, with_decl, with_attr, on_top, add, placed_at, tokens, decl_row, attr_row, tag_rows}
 use Rattle.rules.specs.Order.{is_well_formed, is_in_order, on_tag, has_no_attrs, row_faults, Accepted}
 use Rattle.rules.specs.Lists.{RisesFrom, placed_rows}
-use Rattle.rules.proofs.Members.{left_nil, right_nil, no_fault, map_append, AllBelow, below_push, rises_push}
+use Rattle.rules.proofs.Members.{left_nil, right_nil, no_fault, AllBelow, below_push, rises_push}
 
 unfoldable pub rows_of : Token → List PlacedRow
 rows_of (tag t) = tag_rows t
@@ -26,14 +28,14 @@ push_attr : (x : Attr) (t : Tag) → tag_rows (with_attr x t) ≡ tag_rows t ++ 
 unfolding tag_rows with_attr
 push_attr x t =
     ap (λ l. t.placed ∷ l)
-    (ap (λ l. map decl_row t.decls ++ l) (map_append attr_row t.attrs (x ∷ []))
+    (ap (λ l. map decl_row t.decls ++ l) (map-append attr_row t.attrs (x ∷ []))
     ∙ sym (append_assoc (map decl_row t.decls) (map attr_row t.attrs) (attr_row x ∷ [])))
 
 push_decl : (d : Decl) (t : Tag) → t.attrs ≡ [] → tag_rows (with_decl d t) ≡ tag_rows t ++ (decl_row d ∷ [])
 unfolding tag_rows with_decl
 push_decl d t e =
     ap (λ l. t.placed ∷ l)
-    (ap (λ xs. map decl_row (t.decls ++ (d ∷ [])) ++ map attr_row xs) e ∙ append-nil _ ∙ map_append decl_row t.decls (d ∷ [])
+    (ap (λ xs. map decl_row (t.decls ++ (d ∷ [])) ++ map attr_row xs) e ∙ append-nil _ ∙ map-append decl_row t.decls (d ∷ [])
     ∙ ap (λ l. l ++ (decl_row d ∷ [])) (sym (ap (λ xs. map decl_row t.decls ++ map attr_row xs) e ∙ append-nil _)))
 
 no_attrs : (xs : List Attr) → has_no_attrs xs ≡ true → xs ≡ []
@@ -58,10 +60,6 @@ grown (Some Attribute) texts x (text y ∷ past) f = absurd (false≢true f)
 grown (Some Attribute) texts x (end y ∷ past) f = absurd (false≢true f)
 grown None texts x past f = absurd (false≢true f)
 
-not-false : (b : Bool) → not b ≡ false → b ≡ true
-not-false true e = refl
-not-false false e = absurd (false≢true (sym e))
-
 in_order : (texts : List Bytes) (past : List Row) (r : Row) → row_faults texts past r ≡ []
     → is_in_order (kind_of r.kind) (tokens texts past) ≡ true
 unfolding row_faults
@@ -84,7 +82,7 @@ place_in x = x.place
 
 places_push : (r : Row) (past : List Row) → map place_in (placed_rows (r ∷ past)) ≡ map place_in (placed_rows past) ++ (length past ∷ [])
 unfolding placed_rows place_in placed_at
-places_push r past = map_append place_in (placed_rows past) (placed_at (length past) r ∷ [])
+places_push r past = map-append place_in (placed_rows past) (placed_at (length past) r ∷ [])
 
 places-below : (rows : List Row) → AllBelow (length rows) (map place_in (placed_rows rows))
 places-below [] = unfold placed_rows in tt

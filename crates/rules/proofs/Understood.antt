@@ -37,8 +37,7 @@ is_nil [] e = refl
 is_nil (x ∷ b) e = absurd (false≢true e)
 
 second : (a b : Bool) → a ≡ true → (a && b) ≡ false → b ≡ false
-second true b e f = f
-second false b e f = absurd (false≢true e)
+second a b e f = grind arith
 
 fine : (K : Knows) (ns : Bytes) → is_foreign K ns ≡ false → Fine K ns
 unfolding is_foreign
@@ -47,6 +46,10 @@ fine K ns e = go (is_empty ns) refl
     go : (x : Bool) → is_empty ns ≡ x → Fine K ns
     go true h = inl (is_nil ns h)
     go false h = inr (inr (grind arith))
+
+pub out_in : (ext : List Name) (e : Element) (out : List Element) → in_extension ext (e ∷ out) ≡ false → in_extension ext out ≡ false
+unfolding in_extension
+out_in ext e out h = grind arith
 
 pub out_of_ext : (K : Knows) (ext : List Name) (at : List Element) → in_extension ext at ≡ false → extension_kept K ext at ≡ false
 unfolding in_extension extension_kept

@@ -1,5 +1,5 @@
 -- What a record has that is sealed.
-use Rattle.std.proofs.Common.{◌≡◌, ℕ, Bool, true, false, cond, List, [], ◌∷◌, reverse, length, Some, None, Ok, Err, Option, Result, sym, refl, ap, subst, arith}
+use Rattle.std.proofs.Common.{◌≡◌, Bool, true, false, cond, List, [], ◌∷◌, reverse, length, Some, None, Ok, Err, Option, Result, sym, refl, ap, subst}
 use mathlib.Core.Bool.{false≢true}
 use Rattle.std.specs.Option.{option_or}
 use Rattle.text.specs.Bytes.{Bytes}
@@ -14,31 +14,22 @@ use Rattle.rules.specs.Faults.{first, faults}
 use Rattle.rules.specs.Order.{has_ended, row_faults, Accepted}
 use Rattle.rules.specs.Records.{judged, Sealed, sealing, or_refused, refusal, finished, outcome}
 
-err_ok : {A E : Type 0} (e : E) (x : A) → ◌≡◌ {A = Result A E} (Err e) (Ok x) → ⊥
-err_ok {A = A} {E = E} e x h = let z : ◌≡◌ {A = ℕ} 0 1 = cc in omega arith
-
 refused_none : (o : Option Refusal) (rest : Result Sealed Refusal) (s : Sealed) → or_refused o rest ≡ Ok s → (o ≡ None) × (rest ≡ Ok s)
 unfolding or_refused
 refused_none None rest s e = (refl, e)
-refused_none (Some r) rest s e = absurd (err_ok r s e)
-
-some-none : {X : Type 0} (x : X) → ◌≡◌ {A = Option X} (Some x) None → ⊥
-some-none x e = let z : ◌≡◌ {A = ℕ} 0 1 = cc in omega arith
+refused_none (Some r) rest s e = absurd (cc)
 
 pub first-none : {X : Type 0} (xs : List X) → first xs ≡ None → xs ≡ []
 first-none [] e = refl
-first-none (x ∷ xs) e = absurd (some-none x e)
+first-none (x ∷ xs) e = absurd (cc)
 
 or_none : (a b : Option Refusal) → option_or a b ≡ None → (a ≡ None) × (b ≡ None)
 or_none None b e = (refl, e)
-or_none (Some x) b e = absurd (some-none x e)
+or_none (Some x) b e = absurd (cc)
 
 ended_ok : (b : Bool) (rest : Result Sealed Refusal) (r : Refusal) (s : Sealed) → cond b rest (Err r) ≡ Ok s → (b ≡ true) × (rest ≡ Ok s)
 ended_ok true rest r s e = (refl, e)
-ended_ok false rest r s e = absurd (err_ok r s e)
-
-ok_same : (a b : Sealed) → ◌≡◌ {A = Result Sealed Refusal} (Ok a) (Ok b) → a ≡ b
-ok_same a b e = cc
+ended_ok false rest r s e = absurd (cc)
 
 -- after the root's end everything is judged
 pub all_judged : (toks : List Token) → has_ended toks ≡ true → judged toks ≡ toks
@@ -73,7 +64,7 @@ whole texts K ext rows s e =
     let a = refused_none (refusal texts K ext (reverse rows)) (finished texts K ext (reverse rows)) s e in
     let b = ended_ok (has_ended (tokens texts (reverse rows))) _ _ s a.1 in
     let c = refused_none (first (mismatches K ext (tokens texts (reverse rows)))) _ s b.1 in
-    let d = ok_same _ s c.1 in
+    let d : sealing (kept_rows K ext (tokens texts (reverse rows))) ≡ s = cc in
     let u = unrefused texts K ext (reverse rows) a.0 in
     record {
       accepted = u.0;

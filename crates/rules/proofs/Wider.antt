@@ -17,6 +17,7 @@ use Rattle.rules.specs.Laws.{Stands, Wider, any_selected, Earlier, MoreKnowledge
 use Rattle.rules.proofs.Members.{left_nil, right_nil, no_fault, sub_refl, sub_none, sub_append, in_append, in_left, in_right, in_sub, in_when, when_in, when_sub}
 use Rattle.rules.proofs.Rise.{tag-part}
 use Rattle.rules.proofs.Once.{stands_only, stands_on}
+use Rattle.rules.proofs.Understood.{out_in}
 
 -- outside extension elements, a branch stands directly in AlternateContent
 abbrev Housed : List Name → List Element → Type 0
@@ -59,10 +60,6 @@ any_selected_lem : (K : Knows) (ext : List Name) (out : List Element) (elder : L
 unfolding choice_selected any_selected selected is_selected element
 any_selected_lem K ext out [] e = e
 any_selected_lem K ext out (t ∷ elder) e = let h = any_selected_lem K ext out elder in grind arith
-
-out_in : (ext : List Name) (e : Element) (out : List Element) → in_extension ext (e ∷ out) ≡ false → in_extension ext out ≡ false
-unfolding in_extension
-out_in ext e out h = grind arith
 
 outside : (K : Knows) (igs : List Bytes) (b : Bytes) → is_dispensable K igs b ≡ true → in_mc b ≡ false
 unfolding is_dispensable
