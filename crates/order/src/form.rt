@@ -39,8 +39,8 @@ pub(crate) fn well_formed(lent: Texts<'_>, row: Row) -> Option<Kind>
     formed.then_some(kind)
 }
 
-#[tactic(auto, using(items::proofs::Fronts::empty_length), unfolding(rules::specs::Order::is_forbidden_decl))]
 // The prefix `xml`, or a prefix other than the default for no namespace.
+#[tactic(auto, using(items::proofs::Fronts::empty_length), unfolding(rules::specs::Order::is_forbidden_decl))]
 pub(crate) fn is_forbidden_decl(prefix: &[u8], namespace: &[u8]) -> bool
     ensures { result ≡ is_forbidden_decl prefix.now namespace.now }
 {
