@@ -1,7 +1,7 @@
 -- What a reader stands for, by what its turn is.
-use Rattle.std.proofs.Common.{◌≡◌, ℕ, Bool, true, false, not, List, ◌∷◌, Ok, Err, Result, None, sym, refl, ◌∙◌, ap, subst}
+use Rattle.std.proofs.Common.{◌≡◌, true, false, List, Ok, Err, Result, None, refl, subst, ap₂}
 use Rattle.std.specs.Result.{MatchResult}
-use Rattle.std.specs.Bool.{⊤}
+use Rattle.text.specs.Bytes.{Bytes}
 use Rattle.record.specs.declared.row.Row.{Row}
 use Rattle.record.specs.declared.refusal.Refusal.{Refusal}
 use Rattle.file.specs.Texts.{texts}
@@ -9,6 +9,7 @@ use Rattle.knowledge.specs.Understood.{Knows}
 use Rattle.sheet.specs.Sheets.{Model, after_drop}
 use Rattle.rules.specs.Faults.{first}
 use Rattle.rules.specs.Order.{row_faults}
+use Rattle.card.specs.Cards.{Name}
 use Rattle.calls.specs.Calls.{Taken, taken, begun, Reading, idle, active, spoilt, row_judged, row_on, done, is_of_sheet}
 use Rattle.frames.specs.Lists.{extension_list}
 use Rattle.course.specs.declared.Course.{Course}
@@ -37,11 +38,9 @@ module _ (r : Reader) (P : Reading → Type 0) where
   from_open s is p (spoilt b) h = cc
   from_open s is p (active b) h =
       let same : h.source ≡ s = cc in
-      let t : texts s.texts ≡ b.taken.texts = ap (λ (x : Source). texts x.texts) (sym same) ∙ h.of_texts in
-      let l : extension_list s.extensions ≡ b.taken.extensions = ap (λ (x : Source). extension_list x.extensions) (sym same) ∙ h.of_list in
-      subst (λ z. P (active (begun (taken z b.taken.knows b.taken.extensions) b.rows))) t
-      (subst (λ z. P (active (begun (taken (texts s.texts) b.taken.knows z) b.rows))) l
-      (p b.taken.knows b.rows (rw (t, l) h.stands)))
+      let t : texts s.texts ≡ b.taken.texts = cc (same, h.of_texts) in
+      let l : extension_list s.extensions ≡ b.taken.extensions = cc (same, h.of_list) in
+      subst P (ap₂ (λ (ts : List Bytes) (xs : List Name). active (begun (taken ts b.taken.knows xs) b.rows)) t l) (p b.taken.knows b.rows (rw (t, l) h.stands))
 
 -- A row that may come next was taken, which spoils the record where the answer says so.
 module _ (s : Source) (knows : Knows) (rows : List Row) (row : Row) (m m' : Model) (c : Course) where
