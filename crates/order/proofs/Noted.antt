@@ -1,7 +1,7 @@
 -- A row more, by its kind.
 use Rattle.std.proofs.Common.{◌≡◌, ℕ, suc, ◌+◌, ◌-◌, ◌^◌, ◌<◌, min, Bool, true, false, not, ◌&&◌, eqb, leb, List, [], ◌∷◌, length, Some, Option, sym, refl, ap, ◌∙◌, arith}
 use mathlib.Core.List.{tail}
-use Rattle.std.proofs.lemmas.Bool.{leb-false, not-true, not-false, or_parts}
+use Rattle.std.proofs.lemmas.Bool.{leb-false, not-false, or_parts}
 use Rattle.text.specs.Bytes.{Bytes}
 use Rattle.record.specs.declared.row.Row.{Row}
 use Rattle.record.specs.declared.row.Kind.{Kind}
@@ -12,7 +12,6 @@ use Rattle.rules.specs.Order.{is_none, has_ended, on_tag, is_in_order, is_at_lim
 use Rattle.rules.specs.Records.{waiting}
 use Rattle.rules.proofs.Members.{left_nil, right_nil, no_fault}
 use Rattle.order.specs.declared.progress.Progress.{Progress}
-use Rattle.order.specs.Waits.{waiting_of}
 use Rattle.order.specs.Following.{Follows, waiting_in}
 use Rattle.order.proofs.Rests.{on-waiting, waiting_on_top, around_on_top, ended_on_top, none-length, tail_length}
 

@@ -1,5 +1,5 @@
 -- The first fault of a row, by what was found of it so far.
-use Rattle.std.proofs.Common.{◌≡◌, ℕ, Bool, true, not, ◌||◌, leb, List, [], ◌∷◌, ◌++◌, length, is_some, Some, None, Option, IfSome, Err, sym, refl, arith}
+use Rattle.std.proofs.Common.{◌≡◌, ℕ, Bool, true, not, ◌||◌, leb, List, [], ◌∷◌, ◌++◌, length, is_some, Some, None, Option, IfSome, Err, refl}
 use Rattle.std.specs.Option.{ok_or}
 use Rattle.text.specs.Bytes.{Bytes}
 use Rattle.record.specs.declared.row.Row.{Row}

@@ -1,15 +1,10 @@
 -- What the rules ask of tokens: the element that waits, the number of open elements, whether the root has ended.
-use Rattle.std.proofs.Common.{◌≡◌, ℕ, ◌-◌, Bool, true, false, not, eqb, List, [], ◌∷◌, length, sym, refl, ap, ◌∙◌, ap₂, arith}
+use Rattle.std.proofs.Common.{◌≡◌, ◌-◌, Bool, true, eqb, List, [], ◌∷◌, length, refl, arith}
 use mathlib.Core.Bool.{false≢true}
 use mathlib.Core.List.{tail}
-use Rattle.text.specs.Bytes.{Bytes}
-use Rattle.record.specs.declared.row.Row.{Row}
-use Rattle.rules.specs.Elements.{Tag, Token, tag, text, end, on_top, Element, around, tokens}
-use Rattle.rules.specs.Order.{is_none, has_ended, on_tag, has_prefix, has_attr}
+use Rattle.rules.specs.Elements.{Tag, Token, tag, text, end, on_top, Element, around}
+use Rattle.rules.specs.Order.{is_none, has_ended, on_tag}
 use Rattle.rules.specs.Records.{waiting}
-use Rattle.order.specs.declared.progress.Progress.{Progress}
-use Rattle.order.specs.Waits.{waiting_of}
-use Rattle.order.specs.Following.{Follows}
 
 -- a test of the newest tag is one of the element that waits
 pub on-waiting : (f : Tag → Bool) (toks : List Token) → on_tag f (waiting toks) ≡ on_tag f toks

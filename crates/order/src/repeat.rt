@@ -26,7 +26,5 @@ fn is_named(x: PlacedRow, lent: Texts<'_>, namespace: &[u8], name: &[u8]) -> boo
 pub(crate) fn has_attr(attrs: &[PlacedRow], lent: Texts<'_>, namespace: &[u8], name: &[u8]) -> bool
     ensures { result ≡ has_attr namespace.now name.now (map (attr_of (texts lent.entry)) attrs.now) }
 {
-    attrs
-        .iter()
-        .any(|x| is_named(*x, lent, namespace, name))
+    attrs.iter().any(|x| is_named(*x, lent, namespace, name))
 }

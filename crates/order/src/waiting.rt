@@ -64,6 +64,8 @@ impl Waiting {
         self.attrs.cut(0);
     }
 
+    // Kept: below there is a method for each of the two lists; each is one line, and its clause speaks of another part of the tag.
+
     // A declaration of the element that waits.
     pub(crate) fn add_decl(&mut self, row: PlacedRow)
         ensures { (ts : List Bytes) → on_tag (λ (t : Tag). nat_le 32 (length t.decls)) (waiting_of ts self.old) ≡ false → waiting_of ts self.new ≡ on_top (with_decl (decl_of ts row)) (waiting_of ts self.old) }

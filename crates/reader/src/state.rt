@@ -11,11 +11,17 @@ struct Source<'a> {
     extensions: Extensions<'a>,
 }
 
+// No record is open, or one is, or one is that a refusal spoilt.
+#[derive(Clone, Copy)]
+enum Turn<'a> {
+    Closed,
+    Open(Source<'a>),
+    Spoilt,
+}
+
 // Reads one record at a time, row by row, in fixed memory; it never holds the record.
 #[derive(Drop)]
 pub struct Reader<'a> {
-    open: Option<Source<'a>>,
-    // A refusal spoilt the open record.
-    spoilt: bool,
+    turn: Turn<'a>,
     course: Course,
 }

@@ -5,7 +5,7 @@ ghost use Rattle.calls.specs.Calls.{Reading, idle, taken, begin_on, row_on, fini
 ghost use Rattle.frames.specs.Lists.{extension_list};
 ghost use Rattle.reader.specs.Holding.{Holds, Does};
 
-use super::{Reader, Source};
+use super::{Reader, Source, Turn};
 use card::extensions::Extensions;
 use course::Course;
 use file::texts::Texts;
@@ -18,7 +18,7 @@ use sheet::Sheet;
 fn is_of_sheet(refusal: Refusal) -> bool
     ensures { result ≡ is_of_sheet refusal }
 {
-    refusal.number() == 23
+    matches!(refusal, Refusal::NotForSheet)
 }
 
 impl<'a> Reader<'a> {
@@ -27,8 +27,7 @@ impl<'a> Reader<'a> {
         ensures { Holds result idle }
     {
         Reader {
-            open: None,
-            spoilt: false,
+            turn: Turn::Closed,
             course: Course::new(),
         }
     }
@@ -44,37 +43,36 @@ impl<'a> Reader<'a> {
         ensures { (reading : Reading) → Holds self.old reading → Does (begin_on reading (taken (texts lent.entry) (K.Knowledge.meaning knowledge.now) (extension_list extensions.entry)) (meaning S.Readable S.Sheet.own sheet.old)) self.new (meaning S.Readable S.Sheet.own sheet.new) (done result) }
     {
         let _ = sheet;
-        if self.open.is_some() {
-            return Err(Refusal::OutOfTurn);
+        match self.turn {
+            Turn::Closed => {
+                let source = Source {
+                    texts: lent,
+                    extensions,
+                };
+                self.course.begin(knowledge, lent);
+                self.turn = Turn::Open(source);
+                Ok(())
+            }
+            Turn::Open(_) | Turn::Spoilt => Err(Refusal::OutOfTurn),
         }
-        self.course.begin(knowledge, lent);
-        self.spoilt = false;
-        self.open = Some(Source {
-            texts: lent,
-            extensions,
-        });
-        Ok(())
     }
 
     // Adds a row to the record and judges what can now be judged.
     pub fn row<S: Sheet>(&mut self, sheet: &mut S, row: Row) -> Result<(), Refusal>
         ensures { (reading : Reading) → Holds self.old reading → Does (row_on reading row (meaning S.Readable S.Sheet.own sheet.old)) self.new (meaning S.Readable S.Sheet.own sheet.new) (done result) }
     {
-        let Some(source) = self.open else {
-            return Err(Refusal::OutOfTurn);
+        let source = match self.turn {
+            Turn::Closed => return Err(Refusal::OutOfTurn),
+            Turn::Spoilt => return Err(Refusal::Spoilt),
+            Turn::Open(source) => source,
         };
-        if self.spoilt {
-            return Err(Refusal::Spoilt);
-        }
         let kind = self.course.check(source.texts, row)?;
         let answer = self
             .course
             .take(sheet, source.texts, source.extensions, row, kind);
-        if let Err(refusal) = answer {
-            if !is_of_sheet(refusal) {
-                sheet.drop_draft();
-                self.spoilt = true;
-            }
+        if answer.is_err_and(|refusal| !is_of_sheet(refusal)) {
+            sheet.drop_draft();
+            self.turn = Turn::Spoilt;
         }
         answer
     }
@@ -84,20 +82,19 @@ impl<'a> Reader<'a> {
     pub fn finish<S: Sheet>(&mut self, sheet: &mut S) -> Result<usize, Refusal>
         ensures { (reading : Reading) → Holds self.old reading → Does (finish_on reading (meaning S.Readable S.Sheet.own sheet.old)) self.new (meaning S.Readable S.Sheet.own sheet.new) (added result) }
     {
-        if self.open.is_none() {
-            return Err(Refusal::OutOfTurn);
-        }
-        if self.spoilt {
-            return Err(Refusal::Spoilt);
+        match self.turn {
+            Turn::Closed => return Err(Refusal::OutOfTurn),
+            Turn::Spoilt => return Err(Refusal::Spoilt),
+            Turn::Open(_) => {}
         }
         self.course.check_end()?;
         if let Some(mismatch) = self.course.mismatch() {
             sheet.drop_draft();
-            self.open = None;
+            self.turn = Turn::Closed;
             return Err(mismatch);
         }
         let sealed = sheet.seal()?;
-        self.open = None;
+        self.turn = Turn::Closed;
         Ok(sealed)
     }
 
@@ -105,11 +102,13 @@ impl<'a> Reader<'a> {
     pub fn abandon<S: Sheet>(&mut self, sheet: &mut S) -> Result<(), Refusal>
         ensures { (reading : Reading) → Holds self.old reading → Does (abandon_on reading (meaning S.Readable S.Sheet.own sheet.old)) self.new (meaning S.Readable S.Sheet.own sheet.new) (done result) }
     {
-        if self.open.is_none() {
-            return Err(Refusal::OutOfTurn);
+        match self.turn {
+            Turn::Closed => Err(Refusal::OutOfTurn),
+            Turn::Open(_) | Turn::Spoilt => {
+                sheet.drop_draft();
+                self.turn = Turn::Closed;
+                Ok(())
+            }
         }
-        sheet.drop_draft();
-        self.open = None;
-        Ok(())
     }
 }

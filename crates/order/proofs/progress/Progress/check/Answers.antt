@@ -28,8 +28,9 @@ returns-then-is_at_limit-clause-answer c past f =
     found _ _ _ _ f.count c.well_formed-2.ensures.formed c.well_formed-2.ensures.kind c.in_ok-kind.ensures.ok_part
     (c.if-not-is_in_order.ensures _ past f) (c.if-is_forbidden.ensures past f)
     (elim c.then-is_at_limit.branch [
-      then-is_at_limit-via-then-is_at_limit w ↦ sym (or_left _ _ (sym (w.if-is_at_limit.ensures _ past f)))
-    | then-is_at_limit-via-else-is_at_limit+then-self-ge-ROWS w ↦ sym (or_right _ _ (le-leb _ _ w.if-self-ge-ROWS.true)) ])
+      | then-is_at_limit-via-then-is_at_limit w ↦ sym (or_left _ _ (sym (w.if-is_at_limit.ensures _ past f)))
+      | then-is_at_limit-via-else-is_at_limit+then-self-ge-ROWS w ↦ sym (or_right _ _ (le-leb _ _ w.if-self-ge-ROWS.true))
+    ])
 
 pub returns-clause-answer : goal.returns-clause-answer
 unfolding fault

@@ -1,12 +1,15 @@
-use Rattle.std.proofs.Common.{sym}
+use Rattle.std.proofs.Common.{refl}
 use Rattle.frames.specs.Lists.{extension_list}
-use Rattle.reader.proofs.Calls.{begin-opens, begin-taken}
+use Rattle.calls.specs.Calls.{begin_on}
+use Rattle.reader.proofs.Calls.{from_closed}
 use Rattle.reader.proofs.state.Reader.begin.Goals as goal
 
-pub returns-then-is_some : goal.returns-then-is_some
-returns-then-is_some g c reading h = begin-taken c.args.self.now (sym c.if-is_some.ensures) _ reading h _
-
-pub returns : goal.returns
-returns g c reading h =
-    begin-opens c.args.self.now (sym c.if-is_some.ensures) _ reading h (record { texts = c.args.lent; extensions = c.args.extensions }) _ _
-    (c.begin.ensures (extension_list c.args.extensions))
+pub returns-in-Closed : goal.returns-in-Closed
+unfolding begin_on
+returns-in-Closed g c =
+    from_closed _ _ c.in-Closed.is
+    (record {
+      answered = refl;
+      reads = record { source = _; is_open = refl; of_texts = refl; of_list = refl; stands = c.begin.ensures (extension_list c.args.extensions) };
+      sheet = refl;
+    })
