@@ -1,4 +1,4 @@
-ghost use Rattle.std.specs.Prelude.{◌≡◌, ◌≤◌, length, IfOk};
+ghost use Rattle.std.specs.Prelude.{◌≡◌, ◌^◌, ◌<◌, ◌≤◌, length, IfOk};
 ghost use Rattle.std.specs.List.{slice_get};
 ghost use Rattle.file.specs.Form.{within_limits, opened, Distinct};
 ghost use Rattle.file.specs.Texts.{texts};
@@ -64,9 +64,10 @@ impl<'a> File<'a> {
         self.rows.len() / 16
     }
 
-    // The rows in order.
+    // The rows in order; their number fits a usize, so they can be enumerated.
     pub fn rows(&self) -> Rows<'a>
-        ensures { rows_left result ≡ (held self.now).rows }
+        ensures rows { rows_left result ≡ (held self.now).rows }
+        ensures fits { length (rows_left result) < 2 ^ 64 }
     {
         Rows { left: self.rows }
     }

@@ -18,13 +18,8 @@ fn card(rt: &HostRuntime, rows: &[Row]) -> Result<Vec<u8>, AllocError> {
     )
 }
 
-fn row(numbers: (u32, u32, u32, u32)) -> Row {
-    Row {
-        kind: numbers.0,
-        a: numbers.1,
-        b: numbers.2,
-        c: numbers.3,
-    }
+fn row((kind, a, b, c): (u32, u32, u32, u32)) -> Row {
+    Row { kind, a, b, c }
 }
 
 // Behind a sound row, so that the place is 1.
@@ -69,8 +64,8 @@ fn rows_of_a_card(rt: HostRuntime) -> Result<(), Fail> {
 
 fn asked<K: Knowledge>(rt: &impl Abort, knowledge: &K, expected: [bool; 5]) {
     let names: [&[u8]; 5] = [b"urn:a", b"urn:ab", b"w", b"wurn", b""];
-    for i in 0..5usize {
-        assert_eq!(rt; knowledge.knows(names[i]), expected[i]);
+    for (name, known) in names.into_iter().zip(expected) {
+        assert_eq!(rt; knowledge.knows(name), known);
     }
 }
 
@@ -81,10 +76,7 @@ fn what_a_card_knows(rt: HostRuntime) -> Result<(), Fail> {
         &rt,
         &[row((21, 1, 0, 0)), row((22, 3, 0, 0)), row((23, 1, 3, 0))],
     )?;
-    let card = match Card::check(bytes.as_slice()) {
-        Ok(card) => card,
-        Err(_) => return Err(Fail::new("refused")),
-    };
+    let card = Card::check(bytes.as_slice()).map_err(|_| Fail::new("refused"))?;
     asked(&rt, &card.names(), [true, false, false, false, false]);
     asked(&rt, &card.family(), [false, false, true, true, false]);
     asked(&rt, &card.knowledge(), [true, false, true, true, false]);
@@ -100,10 +92,7 @@ fn what_a_card_knows(rt: HostRuntime) -> Result<(), Fail> {
 #[test]
 fn what_is_understood(rt: HostRuntime) -> Result<(), Fail> {
     let bytes = card(&rt, &[row((22, 2, 0, 0))])?;
-    let card = match Card::check(bytes.as_slice()) {
-        Ok(card) => card,
-        Err(_) => return Err(Fail::new("refused")),
-    };
+    let card = Card::check(bytes.as_slice()).map_err(|_| Fail::new("refused"))?;
     let knowledge = card.knowledge();
     assert!(rt; knowledge.knows(MC));
     assert!(rt; !understands(&knowledge, MC));

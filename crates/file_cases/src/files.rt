@@ -105,10 +105,7 @@ fn texts_and_rows_are_read_back(rt: HostRuntime) -> Result<(), Fail> {
         },
     ];
     let bytes = made(rt.alloc(), &[(0, 0), (0, 4), (5, 3)], &rows, b"TestFlow")?;
-    let file = match File::check(bytes.as_slice()) {
-        Ok(file) => file,
-        Err(_) => return Err(Fail::new("refused")),
-    };
+    let file = File::check(bytes.as_slice()).map_err(|_| Fail::new("refused"))?;
     let texts = file.texts();
     assert!(rt; texts.count() == 3);
     assert!(rt; texts.at(0) == b"".as_slice());

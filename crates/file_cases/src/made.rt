@@ -16,15 +16,14 @@ pub(crate) fn made(
     for n in [pairs.len(), rows.len(), text.len()] {
         number(&mut bytes, (n & 0xffff_ffff) as u32)?;
     }
-    for pair in pairs {
-        number(&mut bytes, pair.0)?;
-        number(&mut bytes, pair.1)?;
+    for &(offset, length) in pairs {
+        number(&mut bytes, offset)?;
+        number(&mut bytes, length)?;
     }
-    for row in rows {
-        number(&mut bytes, row.kind)?;
-        number(&mut bytes, row.a)?;
-        number(&mut bytes, row.b)?;
-        number(&mut bytes, row.c)?;
+    for &Row { kind, a, b, c } in rows {
+        for n in [kind, a, b, c] {
+            number(&mut bytes, n)?;
+        }
     }
     bytes.extend_from_slice(text)?;
     Ok(bytes)

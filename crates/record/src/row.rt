@@ -1,8 +1,7 @@
 ghost use Rattle.std.specs.Prelude.{◌≡◌};
 ghost use Rattle.record.specs.Rows.{NamesKind, kind_number};
 
-use std::error::Error;
-use std::fmt;
+use thiserror::Error;
 
 // A row as it comes in: a kind and three numbers, none of them checked.
 #[derive(Clone, Copy, PartialEq, Eq, Debug)]
@@ -36,7 +35,8 @@ pub enum Kind {
 }
 
 // A number that no kind has.
-#[derive(Clone, Copy, PartialEq, Eq, Debug)]
+#[derive(Clone, Copy, PartialEq, Eq, Debug, Error)]
+#[error("no kind of row has the number {0}")]
 pub struct UnknownKind(pub u32);
 
 impl TryFrom<u32> for Kind {
@@ -63,11 +63,3 @@ impl From<Kind> for u32 {
         kind as u32
     }
 }
-
-impl fmt::Display for UnknownKind {
-    fn fmt<W: fmt::Write>(&self, f: &mut fmt::Formatter<W>) -> fmt::Result {
-        write!(f, "no row has the kind {}", self.0)
-    }
-}
-
-impl Error for UnknownKind {}

@@ -1,3 +1,5 @@
+use crate::failure::Failure;
+
 // What the words of a command line ask for.
 #[derive(Clone, Copy)]
 pub enum Command<'a> {
@@ -7,19 +9,20 @@ pub enum Command<'a> {
     },
 }
 
-impl<'a> Command<'a> {
-    pub(crate) fn of(words: &'a [String]) -> Option<Command<'a>> {
-        if words.len() < 2 || words[0].as_str() != "inspect" {
-            return None;
+impl<'a> TryFrom<&'a [String]> for Command<'a> {
+    type Error = Failure<'a>;
+
+    fn try_from(words: &'a [String]) -> Result<Command<'a>, Failure<'a>> {
+        match words {
+            [name, record] if name.as_str() == "inspect" => Ok(Command::Inspect {
+                record: record.as_str(),
+                card: None,
+            }),
+            [name, record, card] if name.as_str() == "inspect" => Ok(Command::Inspect {
+                record: record.as_str(),
+                card: Some(card.as_str()),
+            }),
+            _ => Err(Failure::Usage),
         }
-        let record = words[1].as_str();
-        if words.len() == 2 {
-            return Some(Command::Inspect { record, card: None });
-        }
-        if words.len() == 3 {
-            let card = Some(words[2].as_str());
-            return Some(Command::Inspect { record, card });
-        }
-        None
     }
 }

@@ -1,37 +1,22 @@
 use crate::words::Explained;
 use record::refusal::Refusal;
-use std::{fmt, io};
+use std::io;
+use thiserror::Error;
 
 const USAGE: &str = "usage: tusnagol inspect RECORD [CARD]
        tusnagol < COMMANDS    one command a line; # starts a comment";
 
 // Why a command ends without what it was asked for.
-#[derive(Clone, Copy)]
+#[derive(Clone, Copy, Debug, Error)]
 pub enum Failure<'a> {
+    #[error("{usage}", usage = USAGE)]
     Usage,
+    #[error("{path}: cannot be read: {error}")]
     Unreadable { path: &'a str, error: io::Error },
+    #[error("{path}: {why}", why = Explained(*.refusal))]
     Refused { path: &'a str, refusal: Refusal },
-    Output(io::Error),
-}
-
-impl<'a> From<io::Error> for Failure<'a> {
-    fn from(error: io::Error) -> Failure<'a> {
-        Failure::Output(error)
-    }
-}
-
-impl<'a> fmt::Display for Failure<'a> {
-    fn fmt<W: fmt::Write>(&self, f: &mut fmt::Formatter<W>) -> fmt::Result {
-        match *self {
-            Failure::Usage => f.write_str(USAGE),
-            Failure::Unreadable { path, error } => write!(f, "{path}: cannot be read: {error}"),
-            Failure::Refused { path, refusal } => {
-                let why = Explained(refusal);
-                write!(f, "{path}: {why}")
-            }
-            Failure::Output(error) => write!(f, "cannot go on: {error}"),
-        }
-    }
+    #[error("cannot go on: {0}")]
+    Output(#[from] io::Error),
 }
 
 impl<'a> Failure<'a> {

@@ -8,10 +8,7 @@ use record::row::Kind;
 use std::{fs, io};
 
 fn read<'a>(rt: &HostRuntime, path: &'a str) -> Result<Vec<u8>, Failure<'a>> {
-    match fs::read(rt, path) {
-        Ok(bytes) => Ok(bytes),
-        Err(error) => Err(Failure::Unreadable { path, error }),
-    }
+    fs::read(rt, path).map_err(|error| Failure::Unreadable { path, error })
 }
 
 // Prints what a record file holds and, with a card, what the card says of it.
@@ -21,13 +18,10 @@ pub(crate) fn inspect<'a>(
     card: Option<&'a str>,
 ) -> Result<(), Failure<'a>> {
     let bytes = read(rt, record)?;
-    let file = match File::check(bytes.as_slice()) {
-        Ok(file) => file,
-        Err(refusal) => return Err(Failure::Refused {
-            path: record,
-            refusal,
-        }),
-    };
+    let file = File::check(bytes.as_slice()).map_err(|refusal| Failure::Refused {
+        path: record,
+        refusal,
+    })?;
     let texts = file.texts().count();
     let rows = file.row_count();
     println!(rt; "{record}: {texts} texts, {rows} rows")?;
@@ -40,10 +34,7 @@ pub(crate) fn inspect<'a>(
 
 fn compare<'a>(rt: &HostRuntime, file: &File<'_>, path: &'a str) -> Result<(), Failure<'a>> {
     let bytes = read(rt, path)?;
-    let card = match Card::check(bytes.as_slice()) {
-        Ok(card) => card,
-        Err(refusal) => return Err(Failure::Refused { path, refusal }),
-    };
+    let card = Card::check(bytes.as_slice()).map_err(|refusal| Failure::Refused { path, refusal })?;
     println!(rt; "{path}:")?;
     print_namespaces(rt, file, &card)?;
     print_extensions(rt, file, card.extensions())?;
@@ -52,20 +43,11 @@ fn compare<'a>(rt: &HostRuntime, file: &File<'_>, path: &'a str) -> Result<(), F
 
 // Whether a row names this text as a namespace.
 fn names_namespace(file: &File<'_>, number: u32) -> bool {
-    for i in 0..file.row_count() {
-        let Some(row) = file.row(i) else {
-            return false;
-        };
-        let namespace = match Kind::try_from(row.kind) {
-            Ok(Kind::Start | Kind::Attribute) => row.a,
-            Ok(Kind::Declaration) => row.b,
-            _ => 0,
-        };
-        if namespace == number {
-            return true;
-        }
-    }
-    false
+    file.rows().any(|row| match Kind::try_from(row.kind) {
+        Ok(Kind::Start | Kind::Attribute) => row.a == number,
+        Ok(Kind::Declaration) => row.b == number,
+        _ => false,
+    })
 }
 
 fn print_namespaces(rt: &HostRuntime, file: &File<'_>, card: &Card<'_>) -> io::Result<()> {
@@ -93,10 +75,7 @@ fn print_extensions(rt: &HostRuntime, file: &File<'_>, list: Extensions<'_>) -> 
     let texts = file.texts();
     // the levels that are open from the outermost extension element on
     let mut inside = 0usize;
-    for place in 0..file.row_count() {
-        let Some(row) = file.row(place) else {
-            break;
-        };
+    for (place, row) in file.rows().enumerate() {
         match Kind::try_from(row.kind) {
             Ok(Kind::Start) if inside > 0 => inside = inside.saturating_add(1),
             Ok(Kind::Start) if list.has(texts.at(row.a), texts.at(row.b)) => {

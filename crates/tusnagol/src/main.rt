@@ -18,30 +18,21 @@ fn main(rt: HostRuntime) -> io::Result<ExitCode> {
     let words = arguments(&rt)?;
     if words.is_empty() {
         session(&rt)?;
-        return Ok(ExitCode::SUCCESS);
+    } else if let Err(failure) = run(&rt, words.as_slice()) {
+        failure.tell(&rt)?;
+        return Ok(ExitCode::FAILURE);
     }
-    match run(&rt, words.as_slice()) {
-        Ok(()) => Ok(ExitCode::SUCCESS),
-        Err(failure) => {
-            failure.tell(&rt)?;
-            Ok(ExitCode::FAILURE)
-        }
-    }
+    Ok(ExitCode::SUCCESS)
 }
 
 fn arguments(rt: &HostRuntime) -> io::Result<Vec<String>> {
-    let mut words = Vec::new(rt.alloc());
-    for word in env::args(rt)?.skip(1) {
-        words.push(word)?;
-    }
-    Ok(words)
+    Ok(env::args(rt)?.skip(1).collect(rt.alloc())?)
 }
 
 // One command.
 fn run<'a>(rt: &HostRuntime, words: &'a [String]) -> Result<(), Failure<'a>> {
-    match Command::of(words) {
-        Some(Command::Inspect { record, card }) => inspect::inspect(rt, record, card),
-        None => Err(Failure::Usage),
+    match Command::try_from(words)? {
+        Command::Inspect { record, card } => inspect::inspect(rt, record, card),
     }
 }
 
@@ -59,10 +50,10 @@ fn session(rt: &HostRuntime) -> io::Result<()> {
 
 fn obey(rt: &HostRuntime, text: &str) -> io::Result<()> {
     println!(rt; "> {text}")?;
-    let mut words = Vec::new(rt.alloc());
-    for word in text.split_whitespace() {
-        words.push(String::from_str(rt.alloc(), word)?)?;
-    }
+    let words: Vec<String> = text
+        .split_whitespace()
+        .map(|word| String::from_str(rt.alloc(), word))
+        .try_collect(rt.alloc())?;
     if let Err(failure) = run(rt, words.as_slice()) {
         println!(rt; "{failure}")?;
     }

@@ -28,7 +28,7 @@ impl<'a> fmt::Display for Quoted<'a> {
 fn write_text<W: fmt::Write>(text: &str, f: &mut fmt::Formatter<W>) -> fmt::Result {
     for c in text.chars() {
         if c.is_ascii() {
-            write_byte((c as u32 & 0x7f) as u8, f)?;
+            write_byte(c as u8, f)?;
         } else {
             f.write_char(c)?;
         }

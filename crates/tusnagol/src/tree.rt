@@ -112,10 +112,7 @@ impl<'a> fmt::Display for Line<'a> {
 pub(crate) fn print_tree(rt: &HostRuntime, file: &File<'_>) -> io::Result<()> {
     let texts = file.texts();
     let mut open = Vec::new(rt.alloc());
-    for place in 0..file.row_count() {
-        let Some(row) = file.row(place) else {
-            break;
-        };
+    for (place, row) in file.rows().enumerate() {
         let line = Line { texts, row };
         match Kind::try_from(row.kind) {
             Ok(Kind::Start) => {
@@ -138,8 +135,8 @@ fn print_row<L: fmt::Display>(
     depth: usize,
     line: &L,
 ) -> io::Result<()> {
-    let indent = Indent(depth);
-    println!(rt; "{place:>6}  {indent}{line}")
+    let indent = depth.saturating_mul(2);
+    println!(rt; "{place:>6}  {blank:indent$}{line}", blank = "")
 }
 
 // An end, with the element that it ends, if one is open.
@@ -154,18 +151,5 @@ impl<'a> fmt::Display for Close<'a> {
             Some(name) => write!(f, "end {name}"),
             None => f.write_str("end of no element"),
         }
-    }
-}
-
-// Two blanks for each level.
-#[derive(Clone, Copy)]
-struct Indent(usize);
-
-impl fmt::Display for Indent {
-    fn fmt<W: fmt::Write>(&self, f: &mut fmt::Formatter<W>) -> fmt::Result {
-        for _ in 0..self.0 {
-            f.write_str("  ")?;
-        }
-        Ok(())
     }
 }

@@ -22,7 +22,7 @@ unfolding wrong_row
 first_wrong c =
     let wrong = wrong_row (held c.in_ok-file.file).texts in
     let rows = (held c.in_ok-file.file).rows in
-    position_from_yields_List wrong _ _ _ c.position.ensures.ran (YieldsList-from_first (λ row. row) rows_left rows c.rows.ensures) (λ row b q k. search rules)
+    position_from_yields_List wrong _ _ _ c.position.ensures.ran (YieldsList-from_first (λ row. row) rows_left rows c.rows.ensures.rows) (λ row b q k. search rules)
     ∙ position_from-zero wrong rows ∙ sym (first_at-position wrong rows 0)
 
 pub overflow_cast-result : goal.overflow_cast-result

@@ -12,6 +12,6 @@ use Rattle.card.proofs.extensions.Extensions.has.Goals as goal
 pub returns : goal.returns
 unfolding on_list extensions of_kind
 returns c =
-    any_from_yields_List _ _ _ _ c.any.ensures.ran (YieldsList-from_first (λ row. row) rows_left (held c.args.self.now.card).rows c.rows.ensures) (λ row b q k. search rules)
+    any_from_yields_List _ _ _ _ c.any.ensures.ran (YieldsList-from_first (λ row. row) rows_left (held c.args.self.now.card).rows c.rows.ensures.rows) (λ row b q k. search rules)
     ∙ some_of_kind {Y = Name} (λ row. eqb row.kind 23) (λ row. (text_at (held c.args.self.now.card).texts row.a, text_at (held c.args.self.now.card).texts row.b))
     (λ name. bytes_eq name.0 c.args.namespace.now && bytes_eq name.1 c.args.local.now) (held c.args.self.now.card).rows

@@ -12,5 +12,5 @@ use Rattle.card.proofs.known.FamilyKnowledge.knows.Goals as goal
 pub returns : goal.returns
 unfolding family_says stems of_kind
 returns c =
-    any_from_yields_List _ _ _ _ c.any.ensures.ran (YieldsList-from_first (λ row. row) rows_left (held c.args.self.now.card).rows c.rows.ensures) (λ row b q k. search rules)
+    any_from_yields_List _ _ _ _ c.any.ensures.ran (YieldsList-from_first (λ row. row) rows_left (held c.args.self.now.card).rows c.rows.ensures.rows) (λ row b q k. search rules)
     ∙ some_of_kind (λ row. eqb row.kind 22) (λ row. text_at (held c.args.self.now.card).texts row.a) (λ stem. begins stem c.args.name.now) (held c.args.self.now.card).rows
