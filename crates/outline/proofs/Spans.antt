@@ -5,13 +5,12 @@ use Rattle.std.proofs.lemmas.Option.{slice_get_within}
 use Rattle.std.proofs.lemmas.List.{append-nil, length-append, set_split, take-append-drop, length-take-le, length-drop}
 use Rattle.record.specs.declared.row.PlacedRow.{PlacedRow}
 use Rattle.sheet.specs.Rows.{Rows}
-use Rattle.sheet.proofs.Puts.{drop_nth}
 use Rattle.outline.specs.declared.entry.Entry.{Entry}
 use Rattle.outline.specs.declared.entry.Span.{Span}
 use Rattle.outline.specs.declared.entry.Span.TheVariants.{Leaf, Open, Closed}
 use Rattle.outline.specs.Entries.{end_row, end_of, ends, rows_from, rows_of, closed_by}
 use Rattle.outline.specs.Sound.{span_before, all_before}
-use Rattle.outline.proofs.Nths.{both, join}
+use Rattle.outline.proofs.Nths.{both, join, drop_nth}
 
 -- the ends of joined lists
 

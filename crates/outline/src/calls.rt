@@ -59,12 +59,8 @@ impl<'a> Outline<'a> {
         ensures sealed { self.new.count ≡ self.old.count }
         ensures slots { slot_count self.new.roll ≡ slot_count self.old.roll }
     {
-        let Some(at) = self.top else {
-            return;
-        };
-        let Some(start) = self.roll.get(at) else {
-            return;
-        };
+        let at = self.top.unwrap();
+        let start = self.roll.get(at).unwrap();
         let between = self.roll.len() - 1 - at;
         self.roll.set(at, closed_by(start, row.place, between));
         self.top = start.around;

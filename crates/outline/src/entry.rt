@@ -55,10 +55,8 @@ pub(crate) fn closed_by(entry: Entry, end: u32, between: usize) -> Entry
     ensures { result ≡ closed_by entry end between }
 {
     Entry {
-        row: entry.row,
         span: Span::Closed { end, between },
-        number: entry.number,
-        around: entry.around,
+        ..entry
     }
 }
 

@@ -1,4 +1,3 @@
 pub mod Drafts
 pub mod Each
 pub mod Pairs
-pub mod Puts

@@ -1,4 +1,3 @@
-use crate::cases::Answer::{Fine, Refused, Sealed};
 use crate::cases::Step::{Drop as DropDraft, Put, Seal};
 use crate::cases::{
     Answer, Step, first_difference, first_surprise, is_nest, is_same_through, nest,
@@ -28,37 +27,37 @@ const ENTRY: Entry = Entry {
 
 // Every reason for 23, with room for all; then records one after another, the draft alone counting for order and for starts.
 const REASONS: [(Step, Answer); 31] = [
-    (Put(0, 0, 1, 1, 0), Refused(23, 0)),
-    (Put(0, 6, 0, 0, 0), Refused(23, 0)),
-    (Put(7, 1, 1, 2, 1), Refused(23, 0)),
-    (Put(7, 2, 1, 2, 1), Refused(23, 0)),
-    (Put(7, 4, 1, 1, 0), Refused(23, 0)),
-    (Put(7, 4, 1, 0, 1), Refused(23, 0)),
-    (Put(0, 5, 0, 0, 0), Refused(23, 0)),
-    (Seal, Sealed(0)),
-    (Put(3, 1, 1, 2, 0), Fine),
-    (Seal, Refused(23, 0)),
-    (Put(4, 5, 1, 0, 0), Refused(23, 0)),
-    (Put(4, 5, 0, 1, 0), Refused(23, 0)),
-    (Put(4, 5, 0, 0, 1), Refused(23, 0)),
-    (Put(3, 4, 1, 0, 0), Refused(23, 0)),
-    (Put(2, 4, 1, 0, 0), Refused(23, 0)),
-    (Put(4, 4, 1, 0, 0), Fine),
-    (Put(5, 2, 0, 2, 0), Fine),
-    (Put(6, 3, 0, 7, 8), Fine),
-    (Put(9, 5, 0, 0, 0), Fine),
-    (Put(10, 5, 0, 0, 0), Refused(23, 0)),
-    (Seal, Sealed(5)),
-    (Put(0, 4, 2, 0, 0), Fine),
-    (Put(1, 5, 0, 0, 0), Refused(23, 0)),
-    (Seal, Sealed(1)),
-    (Put(0, 1, 1, 2, 0), Fine),
-    (Put(1, 1, 1, 2, 0), Fine),
-    (DropDraft, Fine),
-    (Put(2, 5, 0, 0, 0), Refused(23, 0)),
-    (Put(0, 4, 3, 0, 0), Fine),
-    (DropDraft, Fine),
-    (Seal, Sealed(0)),
+    (Put(0, 0, 1, 1, 0), Err((23, 0))),
+    (Put(0, 6, 0, 0, 0), Err((23, 0))),
+    (Put(7, 1, 1, 2, 1), Err((23, 0))),
+    (Put(7, 2, 1, 2, 1), Err((23, 0))),
+    (Put(7, 4, 1, 1, 0), Err((23, 0))),
+    (Put(7, 4, 1, 0, 1), Err((23, 0))),
+    (Put(0, 5, 0, 0, 0), Err((23, 0))),
+    (Seal, Ok(Some(0))),
+    (Put(3, 1, 1, 2, 0), Ok(None)),
+    (Seal, Err((23, 0))),
+    (Put(4, 5, 1, 0, 0), Err((23, 0))),
+    (Put(4, 5, 0, 1, 0), Err((23, 0))),
+    (Put(4, 5, 0, 0, 1), Err((23, 0))),
+    (Put(3, 4, 1, 0, 0), Err((23, 0))),
+    (Put(2, 4, 1, 0, 0), Err((23, 0))),
+    (Put(4, 4, 1, 0, 0), Ok(None)),
+    (Put(5, 2, 0, 2, 0), Ok(None)),
+    (Put(6, 3, 0, 7, 8), Ok(None)),
+    (Put(9, 5, 0, 0, 0), Ok(None)),
+    (Put(10, 5, 0, 0, 0), Err((23, 0))),
+    (Seal, Ok(Some(5))),
+    (Put(0, 4, 2, 0, 0), Ok(None)),
+    (Put(1, 5, 0, 0, 0), Err((23, 0))),
+    (Seal, Ok(Some(1))),
+    (Put(0, 1, 1, 2, 0), Ok(None)),
+    (Put(1, 1, 1, 2, 0), Ok(None)),
+    (DropDraft, Ok(None)),
+    (Put(2, 5, 0, 0, 0), Err((23, 0))),
+    (Put(0, 4, 3, 0, 0), Ok(None)),
+    (DropDraft, Ok(None)),
+    (Seal, Ok(Some(0))),
 ];
 
 const REASONS_ROWS: [(u32, u32, u32, u32, u32); 6] = [
@@ -72,25 +71,25 @@ const REASONS_ROWS: [(u32, u32, u32, u32, u32); 6] = [
 
 // Four entries, where every row takes one.
 const FLAT_FULL: [(Step, Answer); 19] = [
-    (Put(0, 1, 1, 2, 0), Fine),
-    (Put(1, 1, 1, 2, 0), Fine),
-    (Put(2, 4, 1, 0, 0), Fine),
-    (Put(3, 5, 0, 0, 0), Fine),
-    (Put(4, 5, 0, 0, 0), Refused(21, 4)),
-    (Put(5, 4, 1, 0, 0), Refused(21, 5)),
-    (Put(6, 7, 0, 0, 0), Refused(23, 0)),
-    (Put(3, 4, 1, 0, 0), Refused(23, 0)),
-    (Seal, Refused(23, 0)),
-    (DropDraft, Fine),
-    (Put(0, 1, 1, 2, 0), Fine),
-    (Put(1, 5, 0, 0, 0), Fine),
-    (Seal, Sealed(2)),
-    (Put(0, 1, 1, 3, 0), Fine),
-    (Put(1, 4, 1, 0, 0), Fine),
-    (Put(2, 5, 0, 0, 0), Refused(21, 2)),
-    (DropDraft, Fine),
-    (Put(7, 4, 5, 0, 0), Fine),
-    (Seal, Sealed(1)),
+    (Put(0, 1, 1, 2, 0), Ok(None)),
+    (Put(1, 1, 1, 2, 0), Ok(None)),
+    (Put(2, 4, 1, 0, 0), Ok(None)),
+    (Put(3, 5, 0, 0, 0), Ok(None)),
+    (Put(4, 5, 0, 0, 0), Err((21, 4))),
+    (Put(5, 4, 1, 0, 0), Err((21, 5))),
+    (Put(6, 7, 0, 0, 0), Err((23, 0))),
+    (Put(3, 4, 1, 0, 0), Err((23, 0))),
+    (Seal, Err((23, 0))),
+    (DropDraft, Ok(None)),
+    (Put(0, 1, 1, 2, 0), Ok(None)),
+    (Put(1, 5, 0, 0, 0), Ok(None)),
+    (Seal, Ok(Some(2))),
+    (Put(0, 1, 1, 3, 0), Ok(None)),
+    (Put(1, 4, 1, 0, 0), Ok(None)),
+    (Put(2, 5, 0, 0, 0), Err((21, 2))),
+    (DropDraft, Ok(None)),
+    (Put(7, 4, 5, 0, 0), Ok(None)),
+    (Seal, Ok(Some(1))),
 ];
 
 const FLAT_FULL_ROWS: [(u32, u32, u32, u32, u32); 3] = [
@@ -101,23 +100,23 @@ const FLAT_FULL_ROWS: [(u32, u32, u32, u32, u32); 3] = [
 
 // Four entries, where ends take none.
 const OUTLINE_FULL: [(Step, Answer); 17] = [
-    (Put(0, 1, 1, 2, 0), Fine),
-    (Put(1, 1, 1, 2, 0), Fine),
-    (Put(2, 4, 1, 0, 0), Fine),
-    (Put(3, 5, 0, 0, 0), Fine),
-    (Put(5, 4, 1, 0, 0), Fine),
-    (Put(6, 4, 1, 0, 0), Refused(21, 6)),
-    (Put(6, 1, 1, 2, 0), Refused(21, 6)),
-    (Put(6, 7, 0, 0, 0), Refused(23, 0)),
-    (Put(8, 5, 0, 0, 0), Fine),
-    (Put(9, 5, 0, 0, 0), Refused(23, 0)),
-    (Seal, Sealed(6)),
-    (Put(0, 4, 1, 0, 0), Refused(21, 0)),
-    (Put(0, 5, 0, 0, 0), Refused(23, 0)),
-    (DropDraft, Fine),
-    (Seal, Sealed(0)),
-    (Put(4, 2, 1, 2, 0), Refused(21, 4)),
-    (Put(4, 3, 1, 2, 3), Refused(21, 4)),
+    (Put(0, 1, 1, 2, 0), Ok(None)),
+    (Put(1, 1, 1, 2, 0), Ok(None)),
+    (Put(2, 4, 1, 0, 0), Ok(None)),
+    (Put(3, 5, 0, 0, 0), Ok(None)),
+    (Put(5, 4, 1, 0, 0), Ok(None)),
+    (Put(6, 4, 1, 0, 0), Err((21, 6))),
+    (Put(6, 1, 1, 2, 0), Err((21, 6))),
+    (Put(6, 7, 0, 0, 0), Err((23, 0))),
+    (Put(8, 5, 0, 0, 0), Ok(None)),
+    (Put(9, 5, 0, 0, 0), Err((23, 0))),
+    (Seal, Ok(Some(6))),
+    (Put(0, 4, 1, 0, 0), Err((21, 0))),
+    (Put(0, 5, 0, 0, 0), Err((23, 0))),
+    (DropDraft, Ok(None)),
+    (Seal, Ok(Some(0))),
+    (Put(4, 2, 1, 2, 0), Err((21, 4))),
+    (Put(4, 3, 1, 2, 3), Err((21, 4))),
 ];
 
 const OUTLINE_FULL_ROWS: [(u32, u32, u32, u32, u32); 6] = [
@@ -131,34 +130,34 @@ const OUTLINE_FULL_ROWS: [(u32, u32, u32, u32, u32); 6] = [
 
 // No entry at all.
 const NO_ROOM: [(Step, Answer); 4] = [
-    (Put(0, 4, 1, 0, 0), Refused(21, 0)),
-    (Put(3, 1, 1, 2, 0), Refused(21, 3)),
-    (Put(0, 5, 0, 0, 0), Refused(23, 0)),
-    (Seal, Sealed(0)),
+    (Put(0, 4, 1, 0, 0), Err((21, 0))),
+    (Put(3, 1, 1, 2, 0), Err((21, 3))),
+    (Put(0, 5, 0, 0, 0), Err((23, 0))),
+    (Seal, Ok(Some(0))),
 ];
 
 // Two records: siblings, ends that stand together, text between and behind.
 const RECORDS: [(Step, Answer); 20] = [
-    (Put(0, 1, 1, 2, 0), Fine),
-    (Put(1, 3, 0, 4, 5), Fine),
-    (Put(2, 1, 1, 3, 0), Fine),
-    (Put(3, 1, 1, 4, 0), Fine),
-    (Put(4, 5, 0, 0, 0), Fine),
-    (Put(5, 5, 0, 0, 0), Fine),
-    (Put(6, 4, 6, 0, 0), Fine),
-    (Put(7, 1, 1, 5, 0), Fine),
-    (Put(8, 4, 7, 0, 0), Fine),
-    (Put(9, 5, 0, 0, 0), Fine),
-    (Put(12, 5, 0, 0, 0), Fine),
-    (Seal, Sealed(11)),
-    (Put(0, 1, 1, 6, 0), Fine),
-    (Put(1, 2, 1, 2, 0), Fine),
-    (DropDraft, Fine),
-    (Put(1, 1, 1, 7, 0), Fine),
-    (Put(2, 2, 3, 4, 0), Fine),
-    (Put(3, 5, 0, 0, 0), Fine),
-    (Put(4, 4, 8, 0, 0), Fine),
-    (Seal, Sealed(4)),
+    (Put(0, 1, 1, 2, 0), Ok(None)),
+    (Put(1, 3, 0, 4, 5), Ok(None)),
+    (Put(2, 1, 1, 3, 0), Ok(None)),
+    (Put(3, 1, 1, 4, 0), Ok(None)),
+    (Put(4, 5, 0, 0, 0), Ok(None)),
+    (Put(5, 5, 0, 0, 0), Ok(None)),
+    (Put(6, 4, 6, 0, 0), Ok(None)),
+    (Put(7, 1, 1, 5, 0), Ok(None)),
+    (Put(8, 4, 7, 0, 0), Ok(None)),
+    (Put(9, 5, 0, 0, 0), Ok(None)),
+    (Put(12, 5, 0, 0, 0), Ok(None)),
+    (Seal, Ok(Some(11))),
+    (Put(0, 1, 1, 6, 0), Ok(None)),
+    (Put(1, 2, 1, 2, 0), Ok(None)),
+    (DropDraft, Ok(None)),
+    (Put(1, 1, 1, 7, 0), Ok(None)),
+    (Put(2, 2, 3, 4, 0), Ok(None)),
+    (Put(3, 5, 0, 0, 0), Ok(None)),
+    (Put(4, 4, 8, 0, 0), Ok(None)),
+    (Seal, Ok(Some(4))),
 ];
 
 const RECORDS_ROWS: [(u32, u32, u32, u32, u32); 15] = [
@@ -242,13 +241,13 @@ fn records_in_turn(rt: HostRuntime) {
 fn deep_nests(rt: HostRuntime) {
     let mut rows = [ROW; 128];
     let mut flat = FlatSheet::new(&mut rows);
-    assert!(rt; nest(&mut flat, 64) == Sealed(128));
+    assert_eq!(rt; nest(&mut flat, 64), Ok(Some(128)));
     assert!(rt; is_nest(&flat, 64));
     let mut entries = [ENTRY; 64];
     let mut outline = Outline::new(&mut entries);
-    assert!(rt; nest(&mut outline, 64) == Sealed(128));
+    assert_eq!(rt; nest(&mut outline, 64), Ok(Some(128)));
     assert!(rt; is_nest(&outline, 64));
-    assert!(rt; nest(&mut outline, 1) == Refused(21, 0));
+    assert_eq!(rt; nest(&mut outline, 1), Err((21, 0)));
 }
 
 // A copy of one sheet in the other, and back.
@@ -256,7 +255,7 @@ fn deep_nests(rt: HostRuntime) {
 fn copies(rt: HostRuntime) {
     let mut rows = [ROW; 8];
     let mut flat = FlatSheet::new(&mut rows);
-    assert!(rt; nest(&mut flat, 3) == Sealed(6));
+    assert_eq!(rt; nest(&mut flat, 3), Ok(Some(6)));
     let mut entries = [ENTRY; 3];
     let mut outline = Outline::new(&mut entries);
     assert_eq!(rt; copy(&flat, &mut outline).ok(), Some(6));
