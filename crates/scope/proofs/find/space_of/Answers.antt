@@ -6,10 +6,6 @@ use Rattle.scope.specs.Entries.{binding_of, bindings_of}
 use Rattle.scope.proofs.Finds.{newest_meant}
 use Rattle.scope.proofs.find.space_of.Goals as goal
 
-pub returns-then-is_xml_prefix : goal.returns-then-is_xml_prefix
-unfolding bound
-returns-then-is_xml_prefix c = search rules
-
 pub returns-in_err-binding : goal.returns-in_err-binding
 unfolding bound bindings_of
 returns-in_err-binding c =
