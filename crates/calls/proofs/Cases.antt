@@ -224,9 +224,7 @@ RestCase b m o =
 
 rest-none : (b : Begun) (m : Model) (o : Out) → FinishCase b m o → RestCase b m (or_abandoned o.answer o.sheet o)
 unfolding after_drop
-rest-none b m o (inl h) = inl (OutOfOrder (length b.rows), omega arith, ap (λ (x : Out). or_abandoned x.answer x.sheet x) h.1)
-rest-none b m o (inr (inl h)) = let n = h.2 in inl (h.0, omega arith, ap (λ (x : Out). or_abandoned x.answer x.sheet x) h.3)
-rest-none b m o (inr (inr h)) = inr (h.0, ap (λ (x : Out). or_abandoned x.answer x.sheet x) h.1)
+rest-none b m o h = grind arith
 
 -- a record with more rows, the first first
 abbrev pub with_rows : List Row → Begun → Begun

@@ -27,12 +27,7 @@ use Rattle.calls.proofs.Judging.{newly, newly-kept}
 
 shaped_formed : (k : Option Kind) (r : Row) → is_shaped k r ≡ true → formed k r ≡ true
 unfolding is_shaped
-shaped_formed (Some Start) r e = (and_parts _ _ e).1
-shaped_formed (Some Declaration) r e = e
-shaped_formed (Some Attribute) r e = refl
-shaped_formed (Some Text) r e = e
-shaped_formed (Some End) r e = grind arith
-shaped_formed None r e = e
+shaped_formed k r h = grind arith
 
 row-formed : (texts : List Bytes) (r : Row) → is_well_formed texts r ≡ true → well_formed r ≡ true
 unfolding is_well_formed well_formed

@@ -28,17 +28,7 @@ not-both k i j l p q = let x = eqb-true k i p in let y = eqb-true k j q in omega
 
 opens_by : (k n j : ℕ) (a b c d e : Bool) → eqb k 1 ≡ a → eqb k 2 ≡ b → eqb k 3 ≡ c → eqb k 4 ≡ d → eqb k 5 ≡ e
     → opens (kind_by a b c d e) (Some n) ≡ Some j → Steps a e n j
-opens_by k n j true b c d true p q r s t h = absurd (not-both k 1 5 (omega arith) p t)
-opens_by k n j true b c d false p q r s t h = let z = same_Some (suc n) j h in (refl, omega arith)
-opens_by k n j false true c d true p q r s t h = absurd (not-both k 2 5 (omega arith) q t)
-opens_by k n j false true c d false p q r s t h = (refl, same_Some n j h)
-opens_by k n j false false true d true p q r s t h = absurd (not-both k 3 5 (omega arith) r t)
-opens_by k n j false false true d false p q r s t h = (refl, same_Some n j h)
-opens_by k n j false false false true true p q r s t h = absurd (not-both k 4 5 (omega arith) s t)
-opens_by k n j false false false true false p q r s t h = (refl, same_Some n j h)
-opens_by k zero j false false false false true p q r s t h = absurd (none-some j h)
-opens_by k (suc n) j false false false false true p q r s t h = let z = same_Some n j h in (lt-ltb 0 (suc n) (omega arith), omega arith)
-opens_by k n j false false false false false p q r s t h = absurd (none-some j h)
+opens_by k n j a b c d e p q r s t h = grind arith
 
 pub opens-behind : (n j : ℕ) (x : PlacedRow) → opens (kind_of x.row.kind) (Some n) ≡ Some j → (closes n x ≡ true) × (open_behind n x ≡ j)
 opens-behind n j x h = opens_by x.row.kind n j _ _ _ _ _ refl refl refl refl refl h
@@ -73,15 +63,7 @@ open_pairs xs h = and_from _ _ (open_closes 0 0 xs h) (ap (λ n. eqb n 0) (open_
 
 -- more starts before
 more-opens : (k : Option Kind) (n j d : ℕ) → opens k (Some n) ≡ Some j → opens k (Some (n + d)) ≡ Some (j + d)
-more-opens (Some Start) n j d h = let z = same_Some (suc n) j h in ap Some (omega arith)
-more-opens (Some Declaration) n j d h = ap (λ i. Some (i + d)) (same_Some n j h)
-more-opens (Some Attribute) n j d h = ap (λ i. Some (i + d)) (same_Some n j h)
-more-opens (Some Text) n j d h = ap (λ i. Some (i + d)) (same_Some n j h)
-more-opens (Some End) zero j d h = absurd (none-some j h)
-more-opens (Some End) (suc n) j d h =
-    let z = same_Some n j h in
-    ap (λ i. opens (Some End) (Some i)) (let q : suc n + d ≡ suc (n + d) = omega arith in q) ∙ ap Some (omega arith)
-more-opens None n j d h = absurd (none-some j h)
+more-opens k n j d h = grind arith
 
 pub open_more : (n k d : ℕ) (xs : List PlacedRow) → open_after (Some n) xs ≡ Some k → open_after (Some (n + d)) xs ≡ Some (k + d)
 open_more n k d [] h = ap (λ i. Some (i + d)) (same_Some n k h)
@@ -194,9 +176,7 @@ PutCase f p a after with_it without =
     ⊎ ((after ≡ without) × (((f ≡ false) × (a ≡ Err NotForSheet)) ⊎ ((f ≡ true) × (a ≡ Err (NoRoom p)))))
 
 put-by : (f r : Bool) (p : ℕ) (m n : Model) → PutCase f p (answer (refusal f r p) tt) (unless (refusal f r p) m n) m n
-put-by true true p m n = inl (refl, refl, refl)
-put-by true false p m n = inr (refl, inr (refl, refl))
-put-by false r p m n = inr (refl, inl (refl, refl))
+put-by f r p m n = grind arith
 
 put_case : (m : Model) (x : PlacedRow)
     → PutCase (follows (last_place m.draft) (open_in m.draft) x) x.place (put_answer m x) (after_put m x) (behind m (x ∷ [])) m

@@ -58,9 +58,7 @@ finish-holds (active b) m k h = go (finish_on (active b) m) (finish_case b m h.2
 
 abandon-holds : (rd : Reading) (m : Model) (k : Book) → Holds rd m k → StepHolds abandon (abandon_on rd m) k
 unfolding abandon_on after_drop
-abandon-holds idle m k h = h
-abandon-holds (active b) m k h = (h.0, refl, refl)
-abandon-holds (spoilt b) m k h = (h.0, refl, refl)
+abandon-holds rd m k h = grind arith
 
 -- A file is refused with 1 to 5 before it is read.
 
@@ -146,9 +144,7 @@ holds new [] = (refl, refl, refl)
 holds new (c ∷ past) = step-holds c (after new past).reading (after new past).sheet (book (events new past)) (holds new past)
 
 sealed-by : (rd : Reading) (m : Model) (k : Book) → Holds rd m k → m.sealed ≡ k.sealed
-sealed-by idle m k h = h.0
-sealed-by (active b) m k h = h.0
-sealed-by (spoilt b) m k h = h.0
+sealed-by rd m k h = grind arith
 
 pub are_the_books : (new : New) (calls : List Call) → AreTheBooks new calls (sealed_by new calls)
 are_the_books new calls = sealed-by (after new calls).reading (after new calls).sheet (book (events new calls)) (holds new calls)

@@ -147,15 +147,11 @@ added-fine n e q h = cc
 
 begin-fine : (rd : Reading) (t : Taken) (m : Model) → NoSheets (begin_on rd t m).answer
 unfolding begin_on
-begin-fine idle t m = done-fine
-begin-fine (active b) t m = not_23 OutOfTurn (omega arith)
-begin-fine (spoilt b) t m = not_23 OutOfTurn (omega arith)
+begin-fine rd t m = grind arith
 
 abandon-fine : (rd : Reading) (m : Model) → NoSheets (abandon_on rd m).answer
 unfolding abandon_on
-abandon-fine idle m = not_23 OutOfTurn (omega arith)
-abandon-fine (active b) m = done-fine
-abandon-fine (spoilt b) m = done-fine
+abandon-fine rd m = grind arith
 
 row_fine : (rd : Reading) (r : Row) (m : Model) (k : Book) → Holds rd m k → NoSheets (row_on rd r m).answer
 row_fine idle r m k h = unfold row_on in not_23 OutOfTurn (omega arith)
@@ -196,9 +192,7 @@ step-fine finish rd m k h = finish-fine rd m k h
 step-fine abandon rd m k h = abandon-fine rd m
 
 accepted_in : (rd : Reading) (m : Model) (k : Book) → Holds rd m k → AcceptedIn rd
-accepted_in idle m k h = tt
-accepted_in (active b) m k h = h.2.accepted
-accepted_in (spoilt b) m k h = tt
+accepted_in rd m k h = grind arith
 
 pub sheet_takes_its_own : SheetTakesItsOwn
 sheet_takes_its_own new calls = (

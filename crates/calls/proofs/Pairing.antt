@@ -16,16 +16,7 @@ use Rattle.calls.proofs.Seals.{StepSeals, step_seals}
 kind_opens : (k n : ℕ) (a b c d e : Bool) → eqb k 1 ≡ a → eqb k 2 ≡ b → eqb k 3 ≡ c → eqb k 4 ≡ d → eqb k 5 ≡ e
     → (kind_by a b c d e ≡ None → ⊥) → (not e || ltb 0 n) ≡ true
     → opens (kind_by a b c d e) (Some n) ≡ Some (cond a (n + 1) (cond e (n - 1) n))
-kind_opens k n true b c d e p q r s t w h = ap Some (omega arith)
-kind_opens k n false true c d true p q r s t w h = absurd (not-both k 2 5 (omega arith) q t)
-kind_opens k n false true c d false p q r s t w h = refl
-kind_opens k n false false true d true p q r s t w h = absurd (not-both k 3 5 (omega arith) r t)
-kind_opens k n false false true d false p q r s t w h = refl
-kind_opens k n false false false true true p q r s t w h = absurd (not-both k 4 5 (omega arith) s t)
-kind_opens k n false false false true false p q r s t w h = refl
-kind_opens k zero false false false false true p q r s t w h = absurd (false≢true h)
-kind_opens k (suc n) false false false false true p q r s t w h = ap Some (omega arith)
-kind_opens k n false false false false false p q r s t w h = absurd (w refl)
+kind_opens k n a b c d e p q r s t w h = grind arith
 
 behind-opens : (n : ℕ) (x : PlacedRow) → (kind_of x.row.kind ≡ None → ⊥) → closes n x ≡ true
     → opens (kind_of x.row.kind) (Some n) ≡ Some (open_behind n x)

@@ -52,11 +52,7 @@ told i (c ∷ past) = onward c (eqb (length past) i) (told i past)
 
 onward-none : (c : Call) (b : Bool) → b ≡ false → onward c b None ≡ None
 unfolding onward row_onto unless_ended
-onward-none (begin t) b e = ap (λ x. cond x (Some (begun t [])) None) e
-onward-none (row r) b e = refl
-onward-none (file bytes K ext) b e = refl
-onward-none finish b e = refl
-onward-none abandon b e = refl
+onward-none c b h = grind arith
 
 told-before : (i : ℕ) (calls : List Call) → length calls ≤ i → told i calls ≡ None
 unfolding told
@@ -77,10 +73,7 @@ module _ (n i : ℕ) (f : ℕ → Option Begun) where
 
   begin-tracks : (rd : Reading) (t : Taken) (m : Model) → Tracks rd i n (f i) → Onward (begin t) (begin_on rd t m)
   unfolding begin_on onward
-  begin-tracks idle t m h = (omega arith, ap (λ b. cond b (Some (begun t [])) (f n)) (eq-eqb n n refl))
-  begin-tracks (active b) t m h =
-      let l = h.0 in (omega arith, ap (λ x. cond x (Some (begun t [])) (f i)) (ne_eqb n i (λ q. omega arith)) ∙ h.1)
-  begin-tracks (spoilt b) t m h = tt
+  begin-tracks rd t m h = grind arith
 
   row-tracks : (rd : Reading) (r : Row) (m : Model) (k : Book) → Holds rd m k → Tracks rd i n (f i) → Onward (row r) (row_on rd r m)
   unfolding onward row_onto tried
@@ -92,9 +85,7 @@ module _ (n i : ℕ) (f : ℕ → Option Begun) where
       below = let l = h.0 in omega arith
 
       go : (o : Out) → RowCase b r m o → Onward (row r) o
-      go o (inl x) = subst (Onward (row r)) (sym x.2) (below, ap (row_onto r) h.1 ∙ ap (λ y. Some (tried y r b)) x.1)
-      go o (inr (q, inl x)) = subst (Onward (row r)) (sym x.1) (below, ap (row_onto r) h.1 ∙ ap (λ y. Some (tried (first y) r b)) q)
-      go o (inr (q, inr x)) = subst (Onward (row r)) (sym x.2) tt
+      go o x = grind arith
 
   finish-tracks : (rd : Reading) (m : Model) (k : Book) → Holds rd m k → Tracks rd i n (f i) → Onward finish (finish_on rd m)
   unfolding onward unless_ended
@@ -112,9 +103,7 @@ module _ (n i : ℕ) (f : ℕ → Option Begun) where
 
   abandon-tracks : (rd : Reading) (m : Model) → Onward abandon (abandon_on rd m)
   unfolding abandon_on
-  abandon-tracks idle m = tt
-  abandon-tracks (active b) m = tt
-  abandon-tracks (spoilt b) m = tt
+  abandon-tracks rd m = grind arith
 
   file-tracks : (rd : Reading) (bytes : Bytes) (K : Knows) (ext : List Name) (m : Model) (k : Book) → Holds rd m k → Tracks rd i n (f i)
       → Onward (file bytes K ext) (file_on rd bytes K ext m)
@@ -243,10 +232,7 @@ both_told neither b b' p q = absurd (cc)
 both_told (alike {b = d} {b' = d'} a) b b' p q = subst₂ Like (same_Some d b p) (same_Some d' b' q) a
 
 one_told : {o o' : Option Begun} → Alike o o' → (b : Begun) → ((o ≡ None) × (o' ≡ Some b)) ⊎ ((o ≡ Some b) × (o' ≡ None)) → ⊥
-one_told neither b (inl p) = none-some b p.1
-one_told neither b (inr p) = none-some b p.0
-one_told (alike {b = d} {b' = d'} a) b (inl p) = none-some d (sym p.0)
-one_told (alike {b = d} {b' = d'} a) b (inr p) = none-some d' (sym p.1)
+one_told a b h = grind arith
 
 file-like : (c : Result Contents Refusal) (ext : List Name) (K K' : Knows) → Wider K K' → (b b' : Begun)
     → record_in c K ext ≡ Some b → record_in c K' ext ≡ Some b' → Like b b'

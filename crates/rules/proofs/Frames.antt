@@ -42,87 +42,40 @@ br m = choice m || fallback m
 
 ext-by : (e : Bool) (m : Option McElement) (d p : Bool) → is_extension_state (state_by e m d p) ≡ e
 unfolding is_extension_state state_by
-ext-by true m d p = refl
-ext-by false (Some AlternateContent) d p = refl
-ext-by false (Some Choice) d p = refl
-ext-by false (Some Fallback) d p = refl
-ext-by false None true true = refl
-ext-by false None true false = refl
-ext-by false None false p = refl
+ext-by e m d p = grind arith
 
 alt_by : (e : Bool) (m : Option McElement) (d p : Bool) → is_alternate_state (state_by e m d p) ≡ (not e && alternate m)
 unfolding is_alternate_state state_by
-alt_by true m d p = refl
-alt_by false (Some AlternateContent) d p = refl
-alt_by false (Some Choice) d p = refl
-alt_by false (Some Fallback) d p = refl
-alt_by false None true true = refl
-alt_by false None true false = refl
-alt_by false None false p = refl
+alt_by e m d p = grind arith
 
 pub ignored-by : (e : Bool) (m : Option McElement) (d p : Bool) → (is_some m ≡ true → d ≡ false)
     → is_ignored_state (state_by e m d p) ≡ (not e && (d && not p))
 unfolding is_ignored_state state_by
-ignored-by true m d p f = refl
-ignored-by false (Some AlternateContent) d p f = let k = f refl in grind arith
-ignored-by false (Some Choice) d p f = let k = f refl in grind arith
-ignored-by false (Some Fallback) d p f = let k = f refl in grind arith
-ignored-by false None true true f = refl
-ignored-by false None true false f = refl
-ignored-by false None false p f = refl
+ignored-by e m d p h = grind arith
 
 pub kept_by : (e : Bool) (m : Option McElement) (d p : Bool)
     → is_kept_state (state_by e m d p) ≡ (not e && not (alternate m) && not (br m) && not d)
 unfolding is_kept_state state_by
-kept_by true m d p = refl
-kept_by false (Some AlternateContent) d p = refl
-kept_by false (Some Choice) d p = refl
-kept_by false (Some Fallback) d p = refl
-kept_by false None true true = refl
-kept_by false None true false = refl
-kept_by false None false p = refl
+kept_by e m d p = grind arith
 
 pub heeds-by : (e : Bool) (m : Option McElement) (d p : Bool) → (is_some m ≡ true → d ≡ false)
     → heeds_must (state_by e m d p) ≡ (not e && not (d && not p))
 unfolding heeds_must state_by
-heeds-by true m d p f = refl
-heeds-by false (Some AlternateContent) d p f = let k = f refl in grind arith
-heeds-by false (Some Choice) d p f = let k = f refl in grind arith
-heeds-by false (Some Fallback) d p f = let k = f refl in grind arith
-heeds-by false None true true f = refl
-heeds-by false None true false f = refl
-heeds-by false None false p f = refl
+heeds-by e m d p h = grind arith
 
 pub text-by : (e : Bool) (m : Option McElement) (d p : Bool)
     → keeps_text (state_by e m d p) ≡ (e || not (alternate m) && (br m || not (d && not p)))
 unfolding keeps_text state_by
-text-by true m d p = refl
-text-by false (Some AlternateContent) d p = refl
-text-by false (Some Choice) d p = refl
-text-by false (Some Fallback) d p = refl
-text-by false None true true = refl
-text-by false None true false = refl
-text-by false None false p = refl
+text-by e m d p = grind arith
 
 pub end_by : (e : Bool) (m : Option McElement) (d p : Bool) → keeps_end (state_by e m d p) ≡ (e || not (alternate m) && not (br m) && not d)
 unfolding keeps_end state_by
-end_by true m d p = refl
-end_by false (Some AlternateContent) d p = refl
-end_by false (Some Choice) d p = refl
-end_by false (Some Fallback) d p = refl
-end_by false None true true = refl
-end_by false None true false = refl
-end_by false None false p = refl
+end_by e m d p = grind arith
 
 entered_by_lem : (m : Option McElement) (d p reach sel : Bool) → (is_some m ≡ true → d ≡ false)
     → entered_by (state_by false m d p) reach sel ≡ (reach && not (d && not p) && not (br m && not sel))
 unfolding entered_by state_by
-entered_by_lem (Some AlternateContent) d p reach sel f = let k = f refl in grind arith
-entered_by_lem (Some Choice) d p reach sel f = let k = f refl in grind arith
-entered_by_lem (Some Fallback) d p reach sel f = let k = f refl in grind arith
-entered_by_lem None true true reach sel f = grind arith
-entered_by_lem None true false reach sel f = grind arith
-entered_by_lem None false p reach sel f = grind arith
+entered_by_lem m d p reach sel h = grind arith
 
 entered-ext : (m : Option McElement) (d p reach sel : Bool) → entered_by (state_by true m d p) reach sel ≡ reach
 unfolding entered_by state_by
@@ -131,20 +84,7 @@ entered-ext m d p reach sel = refl
 pub tag-by : (K : Knows) (e : Bool) (m : Option McElement) (d p l : Bool) (s : Scope) (t : Tag)
     → tag_kept_in K (state_by e m d p) l s t ≡ tag_kept K (e && l) (not e && not (alternate m) && not (br m) && not d && l) s.ignorables t
 unfolding tag_kept_in state_by tag_kept
-tag-by K true m d p true s t = refl
-tag-by K true m d p false s t = refl
-tag-by K false (Some AlternateContent) d p true s t = refl
-tag-by K false (Some AlternateContent) d p false s t = refl
-tag-by K false (Some Choice) d p true s t = refl
-tag-by K false (Some Choice) d p false s t = refl
-tag-by K false (Some Fallback) d p true s t = refl
-tag-by K false (Some Fallback) d p false s t = refl
-tag-by K false None true true true s t = refl
-tag-by K false None true true false s t = refl
-tag-by K false None true false true s t = refl
-tag-by K false None true false false s t = refl
-tag-by K false None false p true s t = refl
-tag-by K false None false p false s t = refl
+tag-by K e m d p l s t = grind arith
 
 element-mc : (t : Tag) → is_some (mc_element t) ≡ true → in_mc t.namespace ≡ true
 unfolding mc_element

@@ -24,9 +24,7 @@ use Rattle.rules.proofs.Frames.{ignored-by, kept_by, heeds-by, text-by, end_by, 
 
 inside_only : (x y : Bool) (K : Knows) (s : Scope) (a b : Bool) (t : Tag) → tag_faults x y K s a b t ≡ tag_faults x y K s (not x && a) b t
 unfolding tag_faults
-inside_only true y K s a b t = refl
-inside_only false true K s a b t = refl
-inside_only false false K s a b t = refl
+inside_only x y K s a b t = grind arith
 
 end-tests : (x a h : Bool) → (not x && a && not h) ≡ ((not x && a) && not h)
 end-tests x a h = grind arith

@@ -107,9 +107,7 @@ when_sub false false x f = none
 
 pub in_when : (x y : PlacedRow) (b : Bool) → In x (when b y) → (x ≡ y) × (b ≡ true)
 unfolding when
-in_when x y true (inl e) = (e, refl)
-in_when x y true (inr h) = absurd h
-in_when x y false h = absurd h
+in_when x y b h = grind arith
 
 pub when_in : (b : Bool) (x y : PlacedRow) → x ≡ y → b ≡ true → In x (when b y)
 unfolding when
