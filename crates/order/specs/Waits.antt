@@ -20,6 +20,7 @@ tag_from texts start decls attrs =
       attrs = map (attr_of texts) attrs;
     }
 
+-- the element that waits, where its start has come
 abbrev pub tokens_from : List Bytes → Option PlacedRow → List PlacedRow → List PlacedRow → List Token
 tokens_from texts None decls attrs = []
 tokens_from texts (Some start) decls attrs = tag (tag_from texts start decls attrs) ∷ []

@@ -64,7 +64,8 @@ impl Waiting {
         self.attrs.cut(0);
     }
 
-    // Kept: below there is a method for each of the two lists; each is one line, and its clause speaks of another part of the tag.
+    // Kept: here and below a method for each of the two lists. One for both is no plainer: each is one line, and its clause speaks of
+    // another part of the tag.
 
     // A declaration of the element that waits.
     pub(crate) fn add_decl(&mut self, row: PlacedRow)

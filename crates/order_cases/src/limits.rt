@@ -3,22 +3,14 @@ use record::row::Row;
 use std::process::Abort;
 use std::test::*;
 
-// A start, then so many rows of a kind, each with a letter of its own.
-fn behind(rt: &HostRuntime, kind: u32, count: u32) -> Result<Vec<Row>, Fail> {
+// A start, then so many rows.
+fn behind<F: Fn(u32) -> Row>(rt: &HostRuntime, count: u32, next: F) -> Result<Vec<Row>, Fail>
+    requires { F.IsAlwaysCallable next }
+{
     let mut rows = Vec::new(rt.alloc());
     rows.push(START)?;
     for k in 0..count {
-        rows.push(row((kind, A.wrapping_add(k), A, 0)))?;
-    }
-    Ok(rows)
-}
-
-// A start, then a row so many times.
-fn repeated(rt: &HostRuntime, again: Row, count: usize) -> Result<Vec<Row>, Fail> {
-    let mut rows = Vec::new(rt.alloc());
-    rows.push(START)?;
-    for _ in 0..count {
-        rows.push(again)?;
+        rows.push(next(k))?;
     }
     Ok(rows)
 }
@@ -34,7 +26,7 @@ fn tried_with(
     tried(rt, rows.as_slice(), expected)
 }
 
-// A name that is repeated is refused before it is one too many.
+// Each row has a letter of its own. A name that is repeated is refused before it is one too many.
 #[test]
 fn declarations_and_attributes(rt: HostRuntime) -> Result<(), Fail> {
     let table = [
@@ -50,7 +42,8 @@ fn declarations_and_attributes(rt: HostRuntime) -> Result<(), Fail> {
         (3, 32, (2, 40, A, 0), (10, 33)),
     ];
     for (kind, count, last, expected) in table {
-        tried_with(&rt, behind(&rt, kind, count)?, row(last), expected)?;
+        let rows = behind(&rt, count, |k| row((kind, A.wrapping_add(k), A, 0)))?;
+        tried_with(&rt, rows, row(last), expected)?;
     }
     Ok(())
 }
@@ -71,7 +64,8 @@ fn levels_and_rows(rt: HostRuntime) -> Result<(), Fail> {
         (text, 2047, (2, A, A, 0), (10, 2048)),
     ];
     for (again, count, last, expected) in table {
-        tried_with(&rt, repeated(&rt, row(again), count)?, row(last), expected)?;
+        let rows = behind(&rt, count, |_| row(again))?;
+        tried_with(&rt, rows, row(last), expected)?;
     }
     Ok(())
 }
@@ -79,7 +73,7 @@ fn levels_and_rows(rt: HostRuntime) -> Result<(), Fail> {
 // A level that was closed can be opened again.
 #[test]
 fn a_level_closed(rt: HostRuntime) -> Result<(), Fail> {
-    let mut rows = repeated(&rt, START, 63)?;
+    let mut rows = behind(&rt, 63, |_| START)?;
     rows.push(END)?;
     rows.push(START)?;
     tried(&rt, rows.as_slice(), (0, 66))?;

@@ -1,6 +1,7 @@
 use file::checked::File;
 use file::texts::Texts;
 use order::progress::Progress;
+use record::refusal::Refusal;
 use record::row::Row;
 use std::alloc::{AllocError, Global};
 use std::process::Abort;
@@ -30,13 +31,8 @@ pub(crate) const END: Row = Row {
     c: 0,
 };
 
-pub(crate) fn row(numbers: (u32, u32, u32, u32)) -> Row {
-    Row {
-        kind: numbers.0,
-        a: numbers.1,
-        b: numbers.2,
-        c: numbers.3,
-    }
+pub(crate) fn row((kind, a, b, c): (u32, u32, u32, u32)) -> Row {
+    Row { kind, a, b, c }
 }
 
 fn number(bytes: &mut Vec<u8>, n: u32) -> Result<(), AllocError> {
@@ -57,29 +53,28 @@ fn file(heap: Global) -> Result<Vec<u8>, AllocError> {
     Ok(bytes)
 }
 
-// The number and the place of the first refusal, or 0 and the number of rows.
-fn answer(lent: Texts<'_>, rows: &[Row]) -> (u32, u32) {
+// The number of rows, or the first refusal.
+fn answer(lent: Texts<'_>, rows: &[Row]) -> Result<u32, Refusal> {
     let mut progress = Progress::new();
     for row in rows {
-        match progress.check(lent, *row) {
-            Ok(kind) => progress.note(*row, kind),
-            Err(refusal) => return (refusal.number(), refusal.place()),
-        }
+        let kind = progress.check(lent, *row)?;
+        progress.note(*row, kind);
     }
-    (0, progress.place())
+    Ok(progress.place())
 }
 
+// What is expected is the number and the place of the first refusal, or 0 and the number of rows.
 pub(crate) fn tried(
     rt: &(impl Abort + AllocGlobal),
     rows: &[Row],
     expected: (u32, u32),
 ) -> Result<(), Fail> {
     let bytes = file(rt.alloc())?;
-    match File::check(bytes.as_slice()) {
-        Ok(file) => {
-            assert_eq!(rt; answer(file.texts(), rows), expected);
-            Ok(())
-        },
-        Err(_) => Err(Fail::new("the texts are refused")),
-    }
+    let file = File::check(bytes.as_slice()).map_err(|_| Fail::new("the texts are refused"))?;
+    let told = match answer(file.texts(), rows) {
+        Ok(count) => (0, count),
+        Err(refusal) => (refusal.number(), refusal.place()),
+    };
+    assert_eq!(rt; told, expected);
+    Ok(())
 }
