@@ -1,22 +1,21 @@
 use Rattle.std.proofs.Common.{rules}
-use Rattle.file.specs.Texts.{texts}
 use Rattle.rules.specs.Scope.{named}
 use Rattle.rules.specs.Steps.{all_understood}
-use Rattle.scope.specs.Entries.{bindings_of}
+use Rattle.verdict.specs.Views.{scope_seen}
 use Rattle.verdict.proofs.Items.{item_turn}
-use Rattle.verdict.proofs.required.all_understood.Goals as goal
+use Rattle.verdict.proofs.view.View.all_understood.Goals as goal
 
 pub returns-then-not-is_prefix_understood : goal.returns-then-not-is_prefix_understood
 returns-then-not-is_prefix_understood c =
     λ knows k.
-    let t = item_turn knows (bindings_of (texts c.args.lent) c.args.bindings.now) c.in-Some.item.now _ _ _ (c.loop-item.invariant knows k) c.in-Some.ensures.item in
+    let t = item_turn knows (scope_seen c.args.self).bindings c.in-Some.item.now _ _ _ (c.loop-item.invariant knows k) c.in-Some.ensures.item in
     let p = c.if-not-is_prefix_understood.ensures knows k in
     search rules
 
 pub loop-item-preserved : goal.loop-item-preserved
 loop-item-preserved c =
     λ knows k.
-    let t = item_turn knows (bindings_of (texts c.args.lent) c.args.bindings.now) c.in-Some.item.now _ _ _ (c.loop-item.invariant knows k) c.in-Some.ensures.item in
+    let t = item_turn knows (scope_seen c.args.self).bindings c.in-Some.item.now _ _ _ (c.loop-item.invariant knows k) c.in-Some.ensures.item in
     let p = c.if-not-is_prefix_understood.ensures knows k in
     search rules
 
