@@ -1,8 +1,8 @@
-ghost use Rattle.std.specs.Prelude.{◌≡◌, ℕ, ◌<◌, ◌≤◌, List, [], ◌∷◌, ◌++◌, length, IfSome, IfNone, MatchOption};
-ghost use Rattle.items.specs.Items.{items};
-ghost use Rattle.items.specs.Unread.{unread};
+ghost use Rattle.std.specs.Prelude.{◌≡◌, length};
+ghost use Rattle.std.specs.Iterator.{item_count};
+ghost use Rattle.items.specs.Unread.{unread, unread_items, GivesItem};
 
-use crate::run::Run;
+use crate::run::{is_blank, split_run};
 
 // Reads the items of a list value one after the other.
 #[derive(Clone, Copy)]
@@ -23,16 +23,18 @@ impl<'a> Items<'a> {
     {
         self.rest.len()
     }
+}
 
-    // The next item, or nothing where only blanks are left. It lies in the value, and what is left lies behind it.
-    pub fn next(&mut self) -> Option<&'a [u8]>
-        ensures item { MatchOption result (items (unread self.old) ≡ []) (λ x. items (unread self.old) ≡ x.now ∷ items (unread self.new)) }
-        ensures over { IfNone result (items (unread self.new) ≡ []) }
-        ensures place { IfSome result (λ x. (gap : List ℕ) × (unread self.old ≡ gap ++ (x.now ++ unread self.new))) }
-        ensures less { MatchOption result (length (unread self.new) ≤ length (unread self.old)) (λ _. length (unread self.new) < length (unread self.old)) }
-    {
-        let (_, from) = self.rest.split_at(Run::Blanks.length(self.rest));
-        let (item, rest) = from.split_at(Run::Item.length(from));
+impl<'a> Iterator for Items<'a> {
+    type Item = &'a [u8];
+
+    ghost next_gives = { GivesItem };
+
+    ghost remaining = { item_count unread_items };
+
+    fn next(&mut self) -> Option<&'a [u8]> {
+        let (_, from) = split_run(self.rest, is_blank);
+        let (item, rest) = split_run(from, |b| !is_blank(b));
         self.rest = rest;
         if item.is_empty() {
             return None;

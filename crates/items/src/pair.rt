@@ -2,12 +2,12 @@ ghost use Rattle.std.specs.Prelude.{◌≡◌, ℕ, List, ◌++◌, codes};
 ghost use Rattle.std.specs.Str.{bytes_eq};
 ghost use Rattle.items.specs.Items.{has_colon, prefix_part, local_part, is_pair};
 
-use crate::run::Run;
+use crate::run::{is_colon, split_run};
 
 pub fn has_colon(s: &[u8]) -> bool
     ensures { result ≡ has_colon s.now }
 {
-    Run::Part.length(s) < s.len()
+    s.iter().any(|b| is_colon(*b))
 }
 
 // The prefix and the local name of an item: what stands before its first colon, and what stands behind it.
@@ -16,7 +16,7 @@ pub fn split(item: &[u8]) -> (&[u8], &[u8])
     ensures local { result.1.now ≡ local_part item.now }
     ensures place { (front : List ℕ) × (item.now ≡ front ++ result.1.now) }
 {
-    let (prefix, rest) = item.split_at(Run::Part.length(item));
+    let (prefix, rest) = split_run(item, |b| !is_colon(b));
     let (_, local) = rest.split_at(rest.len().min(1));
     (prefix, local)
 }
@@ -24,13 +24,11 @@ pub fn split(item: &[u8]) -> (&[u8], &[u8])
 fn is_star(s: &[u8]) -> bool
     ensures { result ≡ bytes_eq s.now (codes "*") }
 {
-    if s.len() != 1 {
-        return false;
-    }
-    match char::from(s[0]) {
-        '*' => true,
-        _ => false,
-    }
+    s.len() == 1
+        && match char::from(s[0]) {
+            '*' => true,
+            _ => false,
+        }
 }
 
 // Whether an item has two parts around its only colon, neither empty and the second not a star.
@@ -38,14 +36,5 @@ pub fn is_pair(item: &[u8]) -> bool
     ensures { result ≡ is_pair item.now }
 {
     let (prefix, local) = split(item);
-    if prefix.is_empty() {
-        return false;
-    }
-    if local.is_empty() {
-        return false;
-    }
-    if has_colon(local) {
-        return false;
-    }
-    !is_star(local)
+    !prefix.is_empty() && !local.is_empty() && !has_colon(local) && !is_star(local)
 }

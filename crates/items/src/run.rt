@@ -1,20 +1,9 @@
-ghost use Rattle.std.specs.Prelude.{◌≡◌};
+ghost use Rattle.std.specs.Prelude.{◌≡◌, ℕ, Bool, ◌++◌, take, drop};
 ghost use Rattle.std.specs.List.{prefix_len};
 ghost use Rattle.items.specs.Items.{is_blank, is_colon};
-ghost use Rattle.items.specs.Runs.{in_run};
-
-// What a run of bytes is made of.
-#[derive(Clone, Copy)]
-pub(crate) enum Run {
-    Blanks,
-    // bytes other than blanks
-    Item,
-    // bytes other than a colon
-    Part,
-}
 
 // Space, tab, line feed and carriage return part the items of a list.
-fn is_blank(b: u8) -> bool
+pub(crate) fn is_blank(b: u8) -> bool
     ensures { result ≡ is_blank b }
 {
     match char::from(b) {
@@ -23,7 +12,7 @@ fn is_blank(b: u8) -> bool
     }
 }
 
-fn is_colon(b: u8) -> bool
+pub(crate) fn is_colon(b: u8) -> bool
     ensures { result ≡ is_colon b }
 {
     match char::from(b) {
@@ -32,26 +21,11 @@ fn is_colon(b: u8) -> bool
     }
 }
 
-impl Run {
-    fn has(self, b: u8) -> bool
-        ensures { result ≡ in_run self b }
-    {
-        match self {
-            Run::Blanks => is_blank(b),
-            Run::Item => !is_blank(b),
-            Run::Part => !is_colon(b),
-        }
-    }
-
-    // How long the run is that a string begins with.
-    pub(crate) fn length(self, s: &[u8]) -> usize
-        ensures { result ≡ prefix_len (in_run self) s.now }
-    {
-        for (i, b) in s.iter().enumerate() {
-            if !self.has(*b) {
-                return i;
-            }
-        }
-        s.len()
-    }
+// Parts a string behind the longest front whose bytes all pass.
+pub(crate) fn split_run<F: Fn(u8) -> bool>(s: &[u8], passes: F) -> (&[u8], &[u8])
+    requires { F.IsAlwaysCallable passes }
+    ensures run { (p : ℕ → Bool) → ((b : ℕ) (r : Bool) → F.post passes b r → r ≡ p b) → (result.0.now ≡ take (prefix_len p s.now) s.now) × (result.1.now ≡ drop (prefix_len p s.now) s.now) }
+    ensures whole { s.now ≡ result.0.now ++ result.1.now }
+{
+    s.split_at(s.iter().take_while(|b| passes(**b)).count())
 }

@@ -1,5 +1,5 @@
 -- One entry more in scope.
-use Rattle.std.proofs.Common.{◌≡◌, suc, ◌+◌, ◌-◌, List, [], ◌∷◌, ◌++◌, map, reverse, length, take, drop, Some, None, Option, sym, refl, ap, ◌∙◌, append_assoc, add-one, arith}
+use Rattle.std.proofs.Common.{◌≡◌, suc, ◌+◌, ◌-◌, List, [], ◌∷◌, ◌++◌, map, reverse, length, take, drop, Some, None, Option, refl, ap, ◌∙◌, append_assoc, add-one, arith}
 use mathlib.Core.List.{reverse-cons}
 use Rattle.std.proofs.lemmas.List.{map_push, reverse-append, length_push, length-append, take_at, drop_at}
 use Rattle.text.specs.Bytes.{Bytes}
@@ -16,22 +16,11 @@ counted xs ys x e = ap length e ∙ length_push xs x ∙ add-one (length xs)
 pub meant_push : {X Y : Type 0} (f : X → Y) (xs : List X) (x : X) → reverse (map f (xs ++ x ∷ [])) ≡ f x ∷ reverse (map f xs)
 meant_push f xs x = ap reverse (map_push f xs x) ∙ reverse-append (map f xs) (f x ∷ [])
 
-turned : {X : Type 0} (o : Option X) (xs ys : List X) → reverse (cons_some o xs) ++ ys ≡ reverse xs ++ cons_some o ys
+-- what an entry more means, between the items behind it and the entries before it
+pub turned : {X : Type 0} (o : Option X) (xs ys : List X) → reverse (cons_some o xs) ++ ys ≡ reverse xs ++ cons_some o ys
 unfolding cons_some
 turned None xs ys = refl
 turned {X} (Some x) xs ys = ap (λ (t : List X). t ++ ys) (reverse-cons x xs) ∙ append_assoc (reverse xs) (x ∷ []) ys
-
--- the items that are left, with the entries, give what all give
-module _ {X : Type 0} (one : Bytes → Option X) (all : List Bytes → List X) where
-  pub entered_turn : (i : Bytes) (is left : List Bytes) (before after result : List X) → all (i ∷ is) ≡ cons_some (one i) (all is)
-      → reverse (all left) ++ before ≡ result → left ≡ i ∷ is → after ≡ cons_some (one i) before → reverse (all is) ++ after ≡ result
-  entered_turn i is left before after result more inv e n =
-      ap (λ (t : List X). reverse (all is) ++ t) n ∙ sym (turned (one i) (all is) before)
-      ∙ ap (λ (t : List X). reverse t ++ before) (sym more) ∙ ap (λ (l : List Bytes). reverse (all l) ++ before) (sym e) ∙ inv
-
-  pub entered_all : (left : List Bytes) (entries result : List X) → all [] ≡ [] → reverse (all left) ++ entries ≡ result → left ≡ [] → entries ≡ result
-  entered_all left entries result none inv e =
-      ap (λ (t : List X). reverse t ++ entries) (sym none) ∙ ap (λ (l : List Bytes). reverse (all l) ++ entries) (sym e) ∙ inv
 
 -- where a part stands, by its length and the length of what stands behind it
 pub placed : (v w g l r : Bytes) → v ≡ w → v ≡ g ++ (l ++ r)

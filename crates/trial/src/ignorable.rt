@@ -48,8 +48,7 @@ pub fn ignorable_items(
     ensures answer { refusal_of result ≡ first (ignorable_items (bindings_of (texts lent.entry) bindings.now) place (length (held marks.old)) (items value.now)) }
     ensures marked { OnOk result (ignorables_of (texts lent.entry) (held marks.new) ≡ reverse (named (bindings_of (texts lent.entry) bindings.now) (items value.now)) ++ ignorables_of (texts lent.entry) (held marks.old)) }
 {
-    let mut list = Items::of(value);
-    while let Some(item) = list.next() {
+    for item in Items::of(value) {
         ignorable_item(item, place, lent, bindings, marks)?;
     }
     Ok(())

@@ -43,9 +43,8 @@ pub fn prefix_items(
 ) -> Result<(), Refusal>
     ensures { refusal_of result ≡ first (prefix_items (bindings_of (texts lent.entry) bindings.now) place (items value.now)) }
 {
-    let mut list = Items::of(value);
-    while let Some(item) = list.next() {
-        let _ = prefix_item(item, place, lent, bindings)?;
+    for item in Items::of(value) {
+        prefix_item(item, place, lent, bindings)?;
     }
     Ok(())
 }

@@ -26,13 +26,7 @@ impl<'a> View<'a> {
     pub fn all_understood(self, value: &[u8]) -> bool
         ensures { (knows : Knows) → Sees self.entry knows → result ≡ all_understood knows (named (scope_seen self.entry).bindings (items value.now)) }
     {
-        let mut list = Items::of(value);
-        while let Some(item) = list.next() {
-            if !self.is_prefix_understood(item) {
-                return false;
-            }
-        }
-        true
+        Items::of(value).all(|item| self.is_prefix_understood(item))
     }
 
     // Whether all namespaces that an element requires are understood, by what is in scope at it.

@@ -3,18 +3,10 @@ use Rattle.items.specs.Items.{is_pair}
 use Rattle.items.proofs.Fronts.{empty_length}
 use Rattle.items.proofs.pair.is_pair.Goals as goal
 
-pub returns-then-is_empty : goal.returns-then-is_empty
+pub returns-then-not-has_colon : goal.returns-then-not-has_colon
 unfolding is_pair
-returns-then-is_empty c = search (rules, empty_length)
+returns-then-not-has_colon c = search (rules, empty_length)
 
-pub returns-then-is_empty-2 : goal.returns-then-is_empty-2
+pub returns-else-not-has_colon : goal.returns-else-not-has_colon
 unfolding is_pair
-returns-then-is_empty-2 c = search (rules, empty_length)
-
-pub returns-then-has_colon : goal.returns-then-has_colon
-unfolding is_pair
-returns-then-has_colon c = search (rules, empty_length)
-
-pub returns : goal.returns
-unfolding is_pair
-returns c = search (rules, empty_length)
+returns-else-not-has_colon c = search (rules, empty_length)

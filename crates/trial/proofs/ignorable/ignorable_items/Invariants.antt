@@ -12,10 +12,7 @@ use Rattle.trial.proofs.ignorable.ignorable_items.Given as goal
 -- the items that are left, with the marks, give what all give
 abbrev pub invariant-loop-item : goal.invariant-loop-item
 invariant-loop-item l =
-    (first (ignorable_items (bindings_of (texts l.lent) l.bindings) l.place (length (held l.marks)) (items (unread l.list)))
+    (first (ignorable_items (bindings_of (texts l.lent) l.bindings) l.place (length (held l.marks)) (items (unread l.item-iterator)))
     ≡ first (ignorable_items (bindings_of (texts l.lent) l.bindings) l.place (length (held l.initial.marks)) (items l.value)))
-    × (reverse (named (bindings_of (texts l.lent) l.bindings) (items (unread l.list))) ++ ignorables_of (texts l.lent) (held l.marks)
+    × (reverse (named (bindings_of (texts l.lent) l.bindings) (items (unread l.item-iterator))) ++ ignorables_of (texts l.lent) (held l.marks)
     ≡ reverse (named (bindings_of (texts l.lent) l.bindings) (items l.value)) ++ ignorables_of (texts l.lent) (held l.initial.marks))
-
-abbrev pub decreases-loop-item : goal.decreases-loop-item
-decreases-loop-item l = length (unread l.list)

@@ -1,28 +1,16 @@
-use Rattle.std.proofs.Common.{rules}
-use Rattle.rules.specs.Scope.{named}
-use Rattle.rules.specs.Steps.{all_understood}
+use Rattle.std.proofs.Common.{◌∙◌, rules}
+use borrow.Author.Tests.{tests}
+use Rattle.std.proofs.lemmas.Iterator.Search.{all_from_yields_List}
+use Rattle.items.specs.Items.{items}
+use Rattle.items.proofs.Yields.{YieldsList-from_items}
 use Rattle.verdict.specs.Views.{scope_seen}
-use Rattle.verdict.proofs.Items.{item_turn}
+use Rattle.verdict.proofs.Items.{is_item_understood, all_items_understood}
 use Rattle.verdict.proofs.view.View.all_understood.Goals as goal
 
-pub returns-then-not-is_prefix_understood : goal.returns-then-not-is_prefix_understood
-returns-then-not-is_prefix_understood c =
-    λ knows k.
-    let t = item_turn knows (scope_seen c.args.self).bindings c.in-Some.item.now _ _ _ (c.loop-item.invariant knows k) c.in-Some.ensures.item in
-    let p = c.if-not-is_prefix_understood.ensures knows k in
-    search rules
-
-pub loop-item-preserved : goal.loop-item-preserved
-loop-item-preserved c =
-    λ knows k.
-    let t = item_turn knows (scope_seen c.args.self).bindings c.in-Some.item.now _ _ _ (c.loop-item.invariant knows k) c.in-Some.ensures.item in
-    let p = c.if-not-is_prefix_understood.ensures knows k in
-    search rules
-
 pub returns : goal.returns
-unfolding named all_understood
 returns c =
     λ knows k.
-    let i = c.loop-item.invariant knows k in
-    let e = c.in_default.ensures.item in
-    search rules
+    let bindings = (scope_seen c.args.self).bindings in
+    let value = c.args.value.now in
+    all_from_yields_List (is_item_understood knows bindings) _ _ c.all.result c.all.ensures.ran (YieldsList-from_items c.of.result value c.of.ensures) (λ x b q m. search (rules, tests))
+    ∙ all_items_understood knows bindings (items value)
