@@ -23,6 +23,12 @@ all_append m (x ∷ xs) ys =
     ≡ then_model v (after_all (after_put m x) (xs ++ ys)) (after_put m x)))
     [ Ok t ↦ all_append (after_put m x) xs ys | Err e ↦ (refl, refl) ]
 
+pub answer_append : (m : Model) (xs ys : Rows) → all_answer m (xs ++ ys) ≡ then_rows (all_answer m xs) (all_answer (after_all m xs) ys)
+answer_append m xs ys = sym (all_append m xs ys).0
+
+pub after_append : (m : Model) (xs ys : Rows) → after_all m (xs ++ ys) ≡ then_model (all_answer m xs) (after_all (after_all m xs) ys) (after_all m xs)
+after_append m xs ys = sym (all_append m xs ys).1
+
 module _ (m m' : Model) (xs ys : Rows) where
   -- the first rows are accepted, and the others are to be put
   pub then-more : (said : Result (Unit {0}) Refusal) (left : Model) → Puts m xs (Ok tt) m' → Puts m' ys said left → Puts m (xs ++ ys) said left
@@ -59,6 +65,9 @@ pub attr_rows : (texts : List Bytes) (xs : List PlacedRow) → map attr_row (map
 unfolding attr_row attr_of
 attr_rows texts [] = refl
 attr_rows texts (x ∷ xs) = ap (λ (t : List PlacedRow). x ∷ t) (attr_rows texts xs)
+
+-- rows put in parts, and the rows of a tag
+pub ruleset puts = (answer_append, after_append, decl_rows, attr_rows)
 
 -- these rows from here give what those rows gave from there
 abbrev pub Same : Model → Rows → Model → Rows → Type 0

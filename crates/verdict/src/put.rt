@@ -34,6 +34,7 @@ fn put_those<S: Sheet, F: Fn(PlacedRow) -> bool>(
 }
 
 // Puts the rows of a kept element's tag that are kept, up to the first refusal.
+#[tactic(auto, unfolding(rules::specs::Steps::kept_tag, sheet::specs::Sheets::all_answer, sheet::specs::Sheets::after_all))]
 pub fn put_tag<S: Sheet>(
     sheet: &mut S,
     element: Element<'_, '_>,
@@ -47,6 +48,7 @@ pub fn put_tag<S: Sheet>(
 }
 
 // Puts all rows of an extension element's tag, up to the first refusal.
+#[tactic(auto, using(crate::proofs::Puts::puts), unfolding(rules::specs::Elements::tag_rows, sheet::specs::Sheets::all_answer, sheet::specs::Sheets::after_all))]
 pub fn put_whole<S: Sheet>(sheet: &mut S, element: Element<'_, '_>) -> Result<(), Refusal>
     ensures { (names : List Bytes) → Puts (meaning S.Readable S.Sheet.own sheet.old) (tag_rows (tag_of names element.entry)) result (meaning S.Readable S.Sheet.own sheet.new) }
 {

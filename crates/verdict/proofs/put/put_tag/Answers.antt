@@ -5,14 +5,6 @@ use Rattle.verdict.proofs.Puts.{one-row, then-more, then-none, decls_pass, attrs
 use Rattle.verdict.specs.Views.{texts_seen, scope_seen}
 use Rattle.verdict.proofs.put.put_tag.Goals as goal
 
-pub returns-in_err-put : goal.returns-in_err-put
-unfolding kept_tag
-returns-in_err-put g c =
-    let p = err_from_is_err_and c.from_residual.result c.from_residual.ensures.1 in
-    λ knows k.
-    rw (p.1, p.2)
-    (then-none _ _ _ _ _ (one-row _ _ c.args.element.start _ c.in_err-put.ensures.answer c.in_err-put.ensures.meaning))
-
 pub returns-in_err-put_those : goal.returns-in_err-put_those
 unfolding kept_tag
 returns-in_err-put_those g c =
