@@ -1,5 +1,4 @@
 pub mod Lists
-pub mod Fates
 pub mod Standing
 pub mod Waits
 pub mod Turns

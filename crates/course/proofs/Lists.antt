@@ -4,7 +4,7 @@ use mathlib.Core.List.{tail}
 use Rattle.std.proofs.lemmas.List.{reverse-append, take_all, take_more, length-take, length-reverse}
 use Rattle.std.proofs.lemmas.Bool.{lt-ltb}
 use Rattle.frames.specs.declared.frame.Frame.{Frame}
-use Rattle.frames.specs.Stacks.{innermost, renoted}
+use Rattle.frames.specs.Stacks.{renoted}
 
 -- the last is the first of the reverse
 pub from_last : {X : Type 0} (xs : List X) (d : X) → 0 < length xs → reverse xs ≡ get_or xs (length xs - 1) d ∷ reverse (take (length xs - 1) xs)
@@ -15,9 +15,12 @@ from_last {X} xs d lt =
     ∙ reverse-append (take (length xs - 1) xs) (get_or xs (length xs - 1) d ∷ [])
 
 -- without the last
-pub without_last : {X : Type 0} (xs : List X) → reverse (take (length xs - 1) xs) ≡ tail (reverse xs)
+without_last : {X : Type 0} (xs : List X) → reverse (take (length xs - 1) xs) ≡ tail (reverse xs)
 without_last [] = refl
 without_last (x ∷ xs) = sym (ap tail (from_last (x ∷ xs) x (omega arith)))
+
+pub cut_last : {X : Type 0} (xs ys : List X) (n : ℕ) → ys ≡ take n xs → n ≡ length xs - 1 → reverse ys ≡ tail (reverse xs)
+cut_last xs ys n e k = ap reverse (e ∙ ap (λ k. take k xs) k) ∙ without_last xs
 
 -- one more, where there is room
 pub with_one : {X : Type 0} (n : ℕ) (xs ys : List X) (x : X) (room : Bool) → room ≡ ltb (length xs) n → ys ≡ cond room (xs ++ x ∷ []) xs → length xs < n
@@ -25,14 +28,10 @@ pub with_one : {X : Type 0} (n : ℕ) (xs ys : List X) (x : X) (room : Bool) →
 with_one {X} n xs ys x room r e lt =
     ap reverse (e ∙ ap (λ (b : Bool). cond b (xs ++ x ∷ []) xs) (r ∙ lt-ltb (length xs) n lt)) ∙ reverse-append xs (x ∷ [])
 
--- the innermost of frames in memory is the last
-pub innermost-last : (xs : List Frame) (d : Frame) → 0 < length xs → get_or xs (length xs - 1) d ≡ innermost (reverse xs)
-innermost-last xs d lt = sym (ap innermost (from_last xs d lt))
-
 -- cut by one, and another frame in its place
-pub renoted-last : (xs cut ys : List Frame) (f : Frame) (room : Bool) → 0 < length xs → length xs ≤ 64 → cut ≡ take (length xs - 1) xs
+pub renoted_last : (xs cut ys : List Frame) (f : Frame) (room : Bool) → 0 < length xs → length xs ≤ 64 → cut ≡ take (length xs - 1) xs
     → room ≡ ltb (length cut) 64 → ys ≡ cond room (cut ++ f ∷ []) cut → reverse ys ≡ renoted f (reverse xs)
-renoted-last xs cut ys f room lt le c r e =
+renoted_last xs cut ys f room lt le c r e =
     let k : length cut < 64 = omega (arith, ap length c, length-take (length xs - 1) xs) in
     with_one 64 cut ys f room r e k ∙ ap (λ (l : List Frame). f ∷ reverse l) c ∙ sym (ap (renoted f) (from_last xs f lt))
 
@@ -41,12 +40,12 @@ length-renoted f [] = refl
 length-renoted f (x ∷ xs) = refl
 
 -- then one more
-pub opened-last : (xs ys zs : List Frame) (around f : Frame) (room : Bool) → reverse ys ≡ renoted around (reverse xs) → room ≡ ltb (length ys) 64
+pub opened_last : (xs ys zs : List Frame) (around f : Frame) (room : Bool) → reverse ys ≡ renoted around (reverse xs) → room ≡ ltb (length ys) 64
     → zs ≡ cond room (ys ++ f ∷ []) ys → length (reverse xs) < 64 → reverse zs ≡ f ∷ renoted around (reverse xs)
-opened-last xs ys zs around f room n r e lt =
+opened_last xs ys zs around f room n r e lt =
     let k : length ys < 64 = omega (arith, length-reverse ys, ap length n, length-renoted around (reverse xs)) in
     with_one 64 ys zs f room r e k ∙ ap (λ (l : List Frame). f ∷ l) n
 
 -- as many as a list in memory can hold
-pub held-few : (n : ℕ) (slots : List Frame) → n ≤ 64 → length (take n slots) ≤ 64
-held-few n slots le = omega (arith, length-take n slots)
+pub held_few : (n : ℕ) (slots : List Frame) → n ≤ 64 → length (take n slots) ≤ 64
+held_few n slots le = omega (arith, length-take n slots)

@@ -28,9 +28,9 @@ eldest-none : {X : Type 0} (xs : List X) → eldest 0 xs ≡ []
 unfolding eldest
 eldest-none xs = drop_all _ xs (omega arith)
 
-pub before-none : (s : Scope) → scope_before no_lengths s ≡ no_scope
+pub before_none : (s : Scope) → scope_before no_lengths s ≡ no_scope
 unfolding scope_before no_scope
-before-none s = rw (eldest-none s.bindings, eldest-none s.ignorables, eldest-none s.processed)
+before_none s = rw (eldest-none s.bindings, eldest-none s.ignorables, eldest-none s.processed)
 
 module _ (texts : List Bytes) (knows : Knows) (extensions : List Name) where
   stacked-none : (s : Scope) (fs : List Held) (gs : List Frame) → s ≡ no_scope → fs ≡ [] → gs ≡ ground ∷ [] → Stacked s fs gs
@@ -56,7 +56,7 @@ module _ (texts : List Bytes) (knows : Knows) (extensions : List Name) where
       }
 
   -- where the root has ended, all tokens are judged
-  pub ended-marked : (rows : List Row) (c : Course) → Stands texts knows extensions rows c → has_ended (tokens texts rows) ≡ true
+  pub ended_marked : (rows : List Row) (c : Course) → Stands texts knows extensions rows c → has_ended (tokens texts rows) ≡ true
       → c.mismatch ≡ first (mismatches knows extensions (tokens texts rows))
-  ended-marked rows c s e =
+  ended_marked rows c s e =
       s.settled.marked ∙ ap (λ (l : List Token). first (mismatches knows extensions l)) (all_judged (tokens texts rows) e)

@@ -21,7 +21,7 @@ use Rattle.order.specs.declared.progress.Progress.{Progress}
 use Rattle.order.specs.Following.{Follows}
 use Rattle.frames.specs.Settle.{Settled}
 use Rattle.course.specs.declared.Course.{Course}
-use Rattle.course.specs.Standing.{frames_of, Stands}
+use Rattle.course.specs.Standing.{frames_of, Stands, SameRecord}
 use Rattle.course.specs.Taking.{Judged, Took}
 use Rattle.course.proofs.Turns.{next_stands}
 
@@ -34,7 +34,7 @@ here texts rows p row f n e = ap (λ (z : ℕ). record { place = z; row = row })
 module _ (t : Taken) (rows : List Row) (row : Row) (kind : Kind) (k : kind_of row.kind ≡ Some kind) (f : row_faults t.texts rows row ≡ [])
     (c : Course) (h : Stands t.texts t.knows t.extensions rows c) (m m' : Model) (r : Result (Unit {0}) Refusal)
     (y : PlacedRow) (at : y ≡ placed_at (length rows) row) (d : Course)
-    (same_known : d.known ≡ c.known) (same-progress : d.progress ≡ c.progress) (j : Judged t rows y kind c d m m' r) where
+    (same : SameRecord c d) (j : Judged t rows y kind c d m m' r) where
   abbrev now_judged : List Token
   now_judged = newly_judged (Some kind) (placed_at (length rows) row) (tokens t.texts rows) ++ judged (tokens t.texts rows)
 
@@ -52,7 +52,7 @@ module _ (t : Taken) (rows : List Row) (row : Row) (kind : Kind) (k : kind_of ro
         answer = answered.answer;
         sheet = answered.sheet;
         stands = rw ok
-            (next_stands t rows row kind k f c e h (a ∙ same_known) follows
+            (next_stands t rows row kind k f c e h (a ∙ same.0) follows
             (subst (λ (z : Option Refusal). Settled t.knows t.extensions now_judged (scope_of t.texts e.scope) (frames_of e) z) (sym l)
             (subst (λ z. Settled t.knows t.extensions now_judged (scope_of t.texts e.scope) (reverse (held z)) d.mismatch) (sym g)
             (subst (λ z. Settled t.knows t.extensions now_judged (scope_of t.texts z) (frames_of d) d.mismatch) (sym b) settled))));
@@ -72,8 +72,8 @@ module _ (t : Taken) (rows : List Row) (row : Row) (kind : Kind) (k : kind_of ro
         left = λ v said o.
             let w = answered.left v said o in
             record {
-              knowing = λ n. ap (λ u. asked u n) (a ∙ same_known) ∙ h.knowing n;
-              follows = subst (λ (p : Progress). Follows t.texts rows p) (sym (b ∙ same-progress)) h.follows;
+              knowing = λ n. ap (λ u. asked u n) (a ∙ same.0) ∙ h.knowing n;
+              follows = subst (λ (p : Progress). Follows t.texts rows p) (sym (b ∙ same.1)) h.follows;
               few = h.few;
               settled =
                   subst (λ (z : Option Refusal). Settled t.knows t.extensions (judged (tokens t.texts rows)) (scope_of t.texts e.scope) (frames_of e) z) (sym (l ∙ w.2))

@@ -25,6 +25,10 @@ pub record Stands (texts : List Bytes) (knows : Knows) (extensions : List Name) 
   pub few : length (around (tokens texts rows)) ≤ 64
   pub settled : Settled knows extensions (judged (tokens texts rows)) (scope_of texts c.scope) (frames_of c) c.mismatch
 
+-- what is known of the record's texts and how far it has come are as they were
+abbrev pub SameRecord : Course → Course → Type 0
+SameRecord before after = (after.known ≡ before.known) × (after.progress ≡ before.progress)
+
 -- of no record: no rows, no open elements, nothing in scope, no mismatch
 pub record Fresh (c : Course) : Type 0 where
   pub follows : (texts : List Bytes) → Follows texts [] c.progress

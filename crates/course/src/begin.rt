@@ -70,6 +70,7 @@ impl Course {
     }
 
     // The first mismatch of a record that is at its end.
+    #[tactic(auto, using(crate::proofs::Standing::ended_marked))]
     pub fn mismatch(&self) -> Option<Refusal>
         ensures { (names : List Bytes) (knows : Knows) (extensions : List Name) (rows : List Row) → Stands names knows extensions rows self.now → has_ended (tokens names rows) ≡ true → result ≡ first (mismatches knows extensions (tokens names rows)) }
     {

@@ -2,7 +2,7 @@ ghost use Rattle.std.specs.Prelude.{◌≡◌, ◌<◌, true, List, length, is_s
 ghost use Rattle.text.specs.Bytes.{Bytes};
 ghost use Rattle.enter.specs.Scopes.{scope_of};
 ghost use Rattle.frames.specs.Stacks.{innermost as first_of};
-ghost use Rattle.course.specs.Standing.{frames_of};
+ghost use Rattle.course.specs.Standing.{frames_of, SameRecord};
 ghost use Rattle.course.specs.Taking.{with_opened, with_mark, closed_at, scope_at, of_tag};
 
 use crate::Course;
@@ -14,10 +14,7 @@ use record::row::Kind;
 pub(crate) fn is_of_tag(kind: Kind) -> bool
     ensures { result ≡ of_tag kind }
 {
-    match kind {
-        Kind::Declaration | Kind::Attribute => true,
-        Kind::Start | Kind::Text | Kind::End => false,
-    }
+    matches!(kind, Kind::Declaration | Kind::Attribute)
 }
 
 impl Course {
@@ -25,23 +22,18 @@ impl Course {
     pub(crate) fn around(&self, opened: Option<Opened>) -> Frame
         ensures { result ≡ first_of (with_opened opened (frames_of self.now)) }
     {
-        match opened {
-            Some(o) => o.frame,
-            None => self.innermost(),
-        }
+        opened.map_or_else(|| self.innermost(), |o| o.frame)
     }
 
     // Holds what a start opened, if one did.
     pub(crate) fn hold_any(&mut self, opened: Option<Opened>)
         ensures frames { (is_some opened ≡ true → length (frames_of self.old) < 64) → frames_of self.new ≡ with_opened opened (frames_of self.old) }
         ensures mismatch { self.new.mismatch ≡ with_mark opened self.old.mismatch }
-        ensures known { self.new.known ≡ self.old.known }
-        ensures progress { self.new.progress ≡ self.old.progress }
+        ensures same_record { SameRecord self.old self.new }
         ensures scope { self.new.scope ≡ self.old.scope }
     {
-        match opened {
-            Some(o) => self.hold(o),
-            None => {}
+        if let Some(o) = opened {
+            self.hold(o);
         }
     }
 
@@ -50,15 +42,10 @@ impl Course {
         ensures frames { frames_of self.new ≡ closed_at kind (frames_of self.old) }
         ensures scope { (names : List Bytes) → scope_of names self.new.scope ≡ scope_at kind (frames_of self.old) (scope_of names self.old.scope) }
         ensures mismatch { self.new.mismatch ≡ self.old.mismatch }
-        ensures known { self.new.known ≡ self.old.known }
-        ensures progress { self.new.progress ≡ self.old.progress }
+        ensures same_record { SameRecord self.old self.new }
     {
-        match kind {
-            Kind::End => self.close(),
-            Kind::Start => {}
-            Kind::Declaration => {}
-            Kind::Attribute => {}
-            Kind::Text => {}
+        if kind == Kind::End {
+            self.close();
         }
     }
 }

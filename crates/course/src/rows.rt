@@ -18,6 +18,7 @@ pub enum Fate {
 }
 
 // Each row is judged by the state of the element around it together with its own kind. The rows of an element's tag wait with it.
+#[tactic(auto, unfolding(rules::specs::States::is_alternate_state, rules::specs::States::keeps_text, rules::specs::States::keeps_end))]
 fn becomes(around: Frame, kind: Kind) -> Fate
     ensures keeps { is_keep result ≡ (around.entered && keeps_in around.state kind) }
     ensures refuses { is_refuse result ≡ ends_empty around kind }
@@ -53,6 +54,7 @@ fn refused_unless(choice_seen: bool) -> Fate
 }
 
 // Judges a text or an end, and puts it if it is kept.
+#[tactic(auto, unfolding(rules::specs::Faults::fault, rules::specs::Steps::when, sheet::specs::Sheets::all_answer, sheet::specs::Sheets::after_all))]
 pub(crate) fn judge_row<S: Sheet>(
     sheet: &mut S,
     around: Frame,

@@ -7,7 +7,7 @@ ghost use Rattle.rules.specs.Elements.{placed_at};
 ghost use Rattle.rules.specs.Order.{row_faults};
 ghost use Rattle.calls.specs.Calls.{taken};
 ghost use Rattle.frames.specs.Lists.{extension_list};
-ghost use Rattle.course.specs.Standing.{Stands};
+ghost use Rattle.course.specs.Standing.{Stands, SameRecord};
 ghost use Rattle.course.specs.Taking.{Waited, Judged, Took};
 
 use crate::Course;
@@ -21,6 +21,7 @@ use frames::put::put_kept;
 use record::refusal::Refusal;
 use record::row::{Kind, PlacedRow, Row};
 use sheet::Sheet;
+use verdict::view::View;
 
 impl Course {
     // Judges the element that waits, if one does, and puts its kept rows. What it opens is not held yet: the row behind it may
@@ -32,8 +33,7 @@ impl Course {
         extensions: Extensions<'_>,
     ) -> Result<Option<Opened>, Refusal>
         ensures waited { (knows : Knows) (rows : List Row) → Stands (texts lent.entry) knows (extension_list extensions.entry) rows self.old → Waited (taken (texts lent.entry) knows (extension_list extensions.entry)) rows self.old self.new (meaning S.Readable S.Sheet.own sheet.old) (meaning S.Readable S.Sheet.own sheet.new) result }
-        ensures known { self.new.known ≡ self.old.known }
-        ensures progress { self.new.progress ≡ self.old.progress }
+        ensures same_record { SameRecord self.old self.new }
         ensures frames { self.new.frames ≡ self.old.frames }
         ensures mismatch { self.new.mismatch ≡ self.old.mismatch }
     {
@@ -49,7 +49,12 @@ impl Course {
             around,
             &mut self.scope,
         )?;
-        put_kept(sheet, element, lent, &self.known, opened.frame, &self.scope)?;
+        let view = View {
+            lent,
+            known: &self.known,
+            scope: &self.scope,
+        };
+        put_kept(sheet, element, view, opened.frame)?;
         Ok(Some(opened))
     }
 
@@ -63,8 +68,7 @@ impl Course {
         kind: Kind,
     ) -> Result<(), Refusal>
         ensures judged { (knows : Knows) (rows : List Row) → Stands (texts lent.entry) knows (extension_list extensions.entry) rows self.old → kind_of row.row.kind ≡ Some kind → row ≡ placed_at (length rows) row.row → row_faults (texts lent.entry) rows row.row ≡ [] → Judged (taken (texts lent.entry) knows (extension_list extensions.entry)) rows row kind self.old self.new (meaning S.Readable S.Sheet.own sheet.old) (meaning S.Readable S.Sheet.own sheet.new) result }
-        ensures known { self.new.known ≡ self.old.known }
-        ensures progress { self.new.progress ≡ self.old.progress }
+        ensures same_record { SameRecord self.old self.new }
     {
         if is_of_tag(kind) {
             return Ok(());

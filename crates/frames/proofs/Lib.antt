@@ -4,4 +4,3 @@ pub mod Settling
 mod Ways
 mod Firsts
 mod Opening
-mod Rows

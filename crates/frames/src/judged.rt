@@ -22,9 +22,11 @@ use file::texts::Texts;
 use judge::element::Element;
 use record::refusal::Refusal;
 use understood::Understood;
+use verdict::view::View;
 
 // Judges a start with its declarations and attributes in the element around it: tries it, and says what it opens. Where it passes, its
 // entries are in scope.
+#[tactic(auto, unfolding(rules::specs::States::faults_in, crate::specs::Lists::extension_list))]
 pub fn judge(
     element: Element<'_, '_>,
     lent: Texts<'_>,
@@ -38,5 +40,6 @@ pub fn judge(
     ensures grown { OnOk result (Grown (scope_of (texts lent.entry) scope.old) (scope_of (texts lent.entry) scope.new)) }
 {
     let extension = try_tag(element, lent, known, extensions, around, scope)?;
-    Ok(open(element, lent, known, extension, around, scope))
+    let view = View { lent, known, scope };
+    Ok(open(element, view, extension, around))
 }

@@ -1,111 +1,74 @@
 ghost use Rattle.std.specs.Prelude.{◌≡◌, not, ◌&&◌, List};
-ghost use Rattle.file.specs.Texts.{texts};
 ghost use Rattle.knowledge.specs.Understood.{Knows};
 ghost use Rattle.card.specs.Cards.{Name};
 ghost use Rattle.rules.specs.Scope.{Scope, is_branch};
 ghost use Rattle.rules.specs.Steps.{is_foreign};
 ghost use Rattle.rules.specs.Faults.{first};
 ghost use Rattle.rules.specs.States.{is_alternate_state, is_ignored_state, is_kept_state, heeds_must, tag_marks_in};
-ghost use Rattle.judge.specs.Tags.{tag_of};
-ghost use Rattle.enter.specs.Scopes.{scope_of};
-ghost use Rattle.understood.specs.Answers.{Knowing};
+ghost use Rattle.verdict.specs.Views.{scope_seen, tag_seen, Sees};
 ghost use Rattle.frames.specs.Stacks.{frame_in};
 
 use crate::frame::Frame;
-use crate::states::{heeds_must, is_alternate, is_ignored, is_kept};
-use enter::in_scope::InScope;
-use file::texts::Texts;
+use crate::states::heeds_must;
 use judge::element::Element;
 use record::refusal::{Cause, Refusal};
-use understood::Understood;
-use verdict::mismatch::attr_mismatch;
-use verdict::space::is_foreign;
+use rules::state::State;
+use verdict::view::View;
 
-// A child of an AlternateContent that is reached, neither a branch nor ignored.
-fn is_stray(element: Element<'_, '_>, lent: Texts<'_>, around: Frame, frame: Frame) -> bool
-    ensures { result ≡ around.entered && is_alternate_state around.state && not (is_branch (tag_of (texts lent.entry) element.entry)) && not (is_ignored_state frame.state) }
-{
-    if !around.entered {
-        return false;
+impl Frame {
+    // The element is reached and kept.
+    #[tactic(auto, unfolding(rules::specs::States::is_kept_state))]
+    fn keeps(self) -> bool
+        ensures { result ≡ self.entered && is_kept_state self.state }
+    {
+        self.entered && self.state == State::Kept
     }
-    if !is_alternate(around.state) {
-        return false;
+
+    // MustUnderstand on the element is heeded.
+    fn heeds(self) -> bool
+        ensures { result ≡ self.entered && heeds_must self.state }
+    {
+        self.entered && heeds_must(self.state)
     }
-    if element.is_branch(lent) {
-        return false;
-    }
-    !is_ignored(frame.state)
 }
 
-// The element is reached and kept.
-fn keeps_tag(frame: Frame) -> bool
-    ensures { result ≡ frame.entered && is_kept_state frame.state }
+// A child of an AlternateContent that is reached, neither a branch nor ignored.
+#[tactic(auto, unfolding(rules::specs::States::is_alternate_state, rules::specs::States::is_ignored_state))]
+fn is_stray(element: Element<'_, '_>, view: View<'_>, around: Frame, frame: Frame) -> bool
+    ensures { result ≡ around.entered && is_alternate_state around.state && not (is_branch (tag_seen view.entry element.entry)) && not (is_ignored_state frame.state) }
 {
-    if !frame.entered {
-        return false;
-    }
-    is_kept(frame.state)
+    around.entered
+        && around.state == State::Alternate
+        && !element.is_branch(view.lent)
+        && frame.state != State::Ignored
 }
 
 // The element is kept, and its namespace is not understood.
-fn keeps_foreign(
-    element: Element<'_, '_>,
-    lent: Texts<'_>,
-    known: &Understood,
-    frame: Frame,
-) -> bool
-    ensures { (knows : Knows) → Knowing (texts lent.entry) knows known.now → result ≡ frame.entered && is_kept_state frame.state && is_foreign knows (tag_of (texts lent.entry) element.entry).namespace }
+fn keeps_foreign(element: Element<'_, '_>, view: View<'_>, frame: Frame) -> bool
+    ensures { (knows : Knows) → Sees view.entry knows → result ≡ frame.entered && is_kept_state frame.state && is_foreign knows (tag_seen view.entry element.entry).namespace }
 {
-    if !frame.entered {
-        return false;
-    }
-    if !is_kept(frame.state) {
-        return false;
-    }
-    is_foreign(element.start.row.a, lent, known)
-}
-
-// MustUnderstand on the element is heeded.
-fn heeds(frame: Frame) -> bool
-    ensures { result ≡ frame.entered && heeds_must frame.state }
-{
-    if !frame.entered {
-        return false;
-    }
-    heeds_must(frame.state)
+    frame.keeps() && view.is_foreign(element.start.row.a)
 }
 
 // The first mismatch of an element's own rows, by the frame around it and its own.
+#[tactic(auto, using(crate::proofs::Firsts::tag_marks))]
 pub(crate) fn mismatch_of(
     element: Element<'_, '_>,
-    lent: Texts<'_>,
-    known: &Understood,
+    view: View<'_>,
     around: Frame,
     frame: Frame,
-    scope: &InScope,
 ) -> Option<Refusal>
-    ensures { (knows : Knows) (exts : List Name) (out : Scope) → Knowing (texts lent.entry) knows known.now → result ≡ first (tag_marks_in knows exts (frame_in out around) (frame_in (scope_of (texts lent.entry) scope.now) frame) (tag_of (texts lent.entry) element.entry)) }
+    ensures { (knows : Knows) (exts : List Name) (out : Scope) → Sees view.entry knows → result ≡ first (tag_marks_in knows exts (frame_in out around) (frame_in (scope_seen view.entry) frame) (tag_seen view.entry element.entry)) }
 {
-    let place = element.start.place;
-    if is_stray(element, lent, around, frame) {
-        return Some(Refusal::Mismatch {
-            place,
-            cause: Cause::StrayChild,
-        });
-    }
-    if keeps_foreign(element, lent, known, frame) {
-        return Some(Refusal::Mismatch {
-            place,
-            cause: Cause::ForeignName,
-        });
-    }
-    attr_mismatch(
-        element.attrs,
-        lent,
-        known,
-        heeds(frame),
-        keeps_tag(frame),
-        scope.bindings(),
-        scope.marks(),
-    )
+    let cause = if is_stray(element, view, around, frame) {
+        Cause::StrayChild
+    } else if keeps_foreign(element, view, frame) {
+        Cause::ForeignName
+    } else {
+        return view.attr_mismatch(element.attrs, frame.heeds(), frame.keeps());
+    };
+    Some(Refusal::Mismatch {
+        place: element.start.place,
+        cause,
+    })
 }

@@ -1,116 +1,84 @@
 ghost use Rattle.std.specs.Prelude.{◌≡◌, not, ◌&&◌, ◌||◌, List, if◌then◌else◌};
-ghost use Rattle.file.specs.Texts.{texts};
 ghost use Rattle.knowledge.specs.Understood.{Knows};
 ghost use Rattle.card.specs.Cards.{Name, OutsideMc};
 ghost use Rattle.rules.specs.Scope.{Scope, mc_element, is_choice, is_listed, items_of, requires_of, named, scope_with};
 ghost use Rattle.rules.specs.Steps.{all_understood};
 ghost use Rattle.rules.specs.States.{is_extension_state, is_alternate_state, state_in};
-ghost use Rattle.judge.specs.Tags.{tag_of};
-ghost use Rattle.enter.specs.Scopes.{scope_of, lengths_of};
-ghost use Rattle.understood.specs.Answers.{Knowing};
+ghost use Rattle.enter.specs.Scopes.{lengths_of};
+ghost use Rattle.verdict.specs.Views.{scope_seen, tag_seen, Sees};
 ghost use Rattle.frames.specs.Parts.{reached_from, selected_from, opened_from, noted_from};
 ghost use Rattle.frames.specs.Opens.{Opens};
 
 use crate::frame::Frame;
 use crate::marks::mismatch_of;
-use crate::names::{is_choice, is_fallback};
 use crate::opened::Opened;
-use crate::states::{is_alternate, is_entered};
-use enter::in_scope::InScope;
-use file::texts::Texts;
+use crate::states::is_entered;
 use judge::element::Element;
+use rules::state::State;
 use text::names::McElement;
-use understood::Understood;
-use verdict::required::is_satisfied;
-use verdict::state::state_of;
+use verdict::view::View;
 
-fn is_reached(around: Frame, name: Option<McElement>) -> bool
-    ensures { result ≡ reached_from around name }
-{
-    if !around.entered {
-        return false;
+impl Frame {
+    // Whether a child is reached.
+    #[tactic(auto, unfolding(rules::specs::States::is_alternate_state))]
+    fn reaches(self, name: Option<McElement>) -> bool
+        ensures { result ≡ reached_from self name }
+    {
+        self.entered
+            && (self.state != State::Alternate
+                || matches!(name, Some(McElement::Choice | McElement::Fallback)))
     }
-    if !is_alternate(around.state) {
-        return true;
-    }
-    is_choice(name) || is_fallback(name)
-}
 
-fn is_selected(around: Frame, name: Option<McElement>, met: bool) -> bool
-    ensures { result ≡ selected_from around name met }
-{
-    if around.choice_selected {
-        return false;
+    // Whether a child is selected.
+    fn selects(self, name: Option<McElement>, met: bool) -> bool
+        ensures { result ≡ selected_from self name met }
+    {
+        !self.choice_selected && (name == Some(McElement::Fallback) || met)
     }
-    is_fallback(name) || met
-}
 
-// The frame around, with its note of a child.
-fn note(around: Frame, name: Option<McElement>, met: bool) -> Frame
-    ensures { result ≡ (if is_alternate_state around.state then noted_from around name met else around) }
-{
-    if !is_alternate(around.state) {
-        return around;
-    }
-    Frame {
-        state: around.state,
-        entered: around.entered,
-        choice_selected: around.choice_selected || met,
-        choice_seen: is_choice(name) || around.choice_seen,
-        fallback_seen: is_fallback(name) || around.fallback_seen,
-        lengths: around.lengths,
+    // The frame with its note of a child.
+    #[tactic(auto, unfolding(rules::specs::States::is_alternate_state))]
+    fn note(self, name: Option<McElement>, met: bool) -> Frame
+        ensures { result ≡ (if is_alternate_state self.state then noted_from self name met else self) }
+    {
+        if self.state != State::Alternate {
+            return self;
+        }
+        Frame {
+            choice_selected: self.choice_selected || met,
+            choice_seen: name == Some(McElement::Choice) || self.choice_seen,
+            fallback_seen: name == Some(McElement::Fallback) || self.fallback_seen,
+            ..self
+        }
     }
 }
 
 // Whether the element is a Choice outside extension elements, and all that it requires is understood.
-fn is_met(
-    element: Element<'_, '_>,
-    lent: Texts<'_>,
-    known: &Understood,
-    extension: bool,
-    scope: &InScope,
-) -> bool
-    ensures { (knows : Knows) → Knowing (texts lent.entry) knows known.now → result ≡ not extension && (is_choice (tag_of (texts lent.entry) element.entry) && all_understood knows (named (scope_of (texts lent.entry) scope.now).bindings (items_of (requires_of (tag_of (texts lent.entry) element.entry))))) }
+fn is_met(element: Element<'_, '_>, view: View<'_>, extension: bool) -> bool
+    ensures { (knows : Knows) → Sees view.entry knows → result ≡ not extension && (is_choice (tag_seen view.entry element.entry) && all_understood knows (named (scope_seen view.entry).bindings (items_of (requires_of (tag_seen view.entry element.entry))))) }
 {
-    if extension {
-        return false;
-    }
-    if !element.is_choice(lent) {
-        return false;
-    }
-    is_satisfied(element, lent, known, scope.bindings())
+    !extension && element.is_choice(view.lent) && view.is_satisfied(element)
 }
 
 // The frame of an element, by what is in scope at it.
 fn frame_of(
     element: Element<'_, '_>,
-    lent: Texts<'_>,
-    known: &Understood,
+    view: View<'_>,
     extension: bool,
     around: Frame,
     met: bool,
-    scope: &InScope,
 ) -> Frame
-    ensures { (knows : Knows) → Knowing (texts lent.entry) knows known.now → result ≡ opened_from (state_in knows extension (scope_of (texts lent.entry) scope.now) (tag_of (texts lent.entry) element.entry)) around (mc_element (tag_of (texts lent.entry) element.entry)) met (lengths_of scope.now) }
+    ensures { (knows : Knows) → Sees view.entry knows → result ≡ opened_from (state_in knows extension (scope_seen view.entry) (tag_seen view.entry element.entry)) around (mc_element (tag_seen view.entry element.entry)) met (lengths_of view.entry.scope.now) }
 {
-    let state = state_of(
-        element,
-        lent,
-        known,
-        extension,
-        scope.marks(),
-        scope.pairs(),
-    );
-    let name = element.mc(lent);
-    let reached = is_reached(around, name);
-    let selected = is_selected(around, name, met);
+    let state = view.state_of(element, extension);
+    let name = element.mc(view.lent);
     Frame {
         state,
-        entered: is_entered(state, reached, selected),
+        entered: is_entered(state, around.reaches(name), around.selects(name, met)),
         choice_selected: false,
         choice_seen: false,
         fallback_seen: false,
-        lengths: scope.lengths(),
+        lengths: view.scope.lengths(),
     }
 }
 
@@ -118,21 +86,17 @@ fn frame_of(
 // an element.
 pub(crate) fn open(
     element: Element<'_, '_>,
-    lent: Texts<'_>,
-    known: &Understood,
+    view: View<'_>,
     extension: bool,
     around: Frame,
-    scope: &InScope,
 ) -> Opened
-    ensures { (knows : Knows) (exts : List Name) (out : Scope) → Knowing (texts lent.entry) knows known.now → OutsideMc exts → extension ≡ is_listed exts (tag_of (texts lent.entry) element.entry) || is_extension_state around.state → scope_of (texts lent.entry) scope.now ≡ (if extension then out else scope_with (tag_of (texts lent.entry) element.entry) out) → Opens knows exts out (scope_of (texts lent.entry) scope.now) around (tag_of (texts lent.entry) element.entry) result }
+    ensures { (knows : Knows) (exts : List Name) (out : Scope) → Sees view.entry knows → OutsideMc exts → extension ≡ is_listed exts (tag_seen view.entry element.entry) || is_extension_state around.state → scope_seen view.entry ≡ (if extension then out else scope_with (tag_seen view.entry element.entry) out) → Opens knows exts out (scope_seen view.entry) around (tag_seen view.entry element.entry) result }
 {
-    let met = is_met(element, lent, known, extension, scope);
-    let frame = frame_of(element, lent, known, extension, around, met, scope);
-    let noted = note(around, element.mc(lent), met);
-    let mismatch = mismatch_of(element, lent, known, around, frame, scope);
+    let met = is_met(element, view, extension);
+    let frame = frame_of(element, view, extension, around, met);
     Opened {
         frame,
-        around: noted,
-        mismatch,
+        around: around.note(element.mc(view.lent), met),
+        mismatch: mismatch_of(element, view, around, frame),
     }
 }

@@ -1,3 +1,5 @@
+pub mod Found
 pub mod Items
 pub mod Marks
 pub mod Puts
+pub mod Views

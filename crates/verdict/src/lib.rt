@@ -7,3 +7,4 @@ pub mod required;
 pub mod rows;
 pub mod space;
 pub mod state;
+pub mod view;

@@ -1,37 +1,31 @@
 ghost use Rattle.std.specs.Prelude.{◌≡◌};
 ghost use Rattle.file.specs.Form.{text_at};
-ghost use Rattle.file.specs.Texts.{texts};
 ghost use Rattle.knowledge.specs.Understood.{Knows};
 ghost use Rattle.rules.specs.Steps.{is_foreign, is_dispensable};
-ghost use Rattle.scope.specs.Entries.{ignorables_of};
-ghost use Rattle.understood.specs.Answers.{Knowing};
 
-use file::texts::Texts;
-use scope::entries::Mark;
+use crate::view::View;
 use scope::find::is_marked;
 use text::names::is_mc;
-use understood::Understood;
 
-// Whether the namespace of this number is a namespace and not understood.
-pub fn is_foreign(n: u32, lent: Texts<'_>, u: &Understood) -> bool
-    ensures { (knows : Knows) → Knowing (texts lent.entry) knows u.now → result ≡ is_foreign knows (text_at (texts lent.entry) n) }
-{
-    if lent.at(n).is_empty() {
-        return false;
-    }
-    !u.has(n)
-}
+impl<'a> View<'a> {
+    ghost use Rattle.verdict.specs.Views.{texts_seen, scope_seen, Sees};
 
-// Whether what has the namespace of this number may be ignored.
-pub fn is_dispensable(n: u32, lent: Texts<'_>, u: &Understood, marks: &[Mark]) -> bool
-    ensures { (knows : Knows) → Knowing (texts lent.entry) knows u.now → result ≡ is_dispensable knows (ignorables_of (texts lent.entry) marks.now) (text_at (texts lent.entry) n) }
-{
-    let namespace = lent.at(n);
-    if is_mc(namespace) {
-        return false;
+    // Whether the namespace of this number is a namespace and not understood.
+    #[tactic(auto, using(items::proofs::Fronts::empty_length), unfolding(rules::specs::Steps::is_foreign))]
+    pub fn is_foreign(self, n: u32) -> bool
+        ensures { (knows : Knows) → Sees self.entry knows → result ≡ is_foreign knows (text_at (texts_seen self.entry) n) }
+    {
+        !self.lent.at(n).is_empty() && !self.known.has(n)
     }
-    if !is_foreign(n, lent, u) {
-        return false;
+
+    // Whether what has the namespace of this number may be ignored.
+    #[tactic(auto, unfolding(rules::specs::Steps::is_dispensable))]
+    pub fn is_dispensable(self, n: u32) -> bool
+        ensures { (knows : Knows) → Sees self.entry knows → result ≡ is_dispensable knows (scope_seen self.entry).ignorables (text_at (texts_seen self.entry) n) }
+    {
+        let namespace = self.lent.at(n);
+        !is_mc(namespace)
+            && self.is_foreign(n)
+            && is_marked(namespace, self.lent, self.scope.marks())
     }
-    is_marked(namespace, lent, marks)
 }

@@ -1,60 +1,50 @@
 ghost use Rattle.std.specs.Prelude.{◌≡◌, false, None};
-ghost use Rattle.file.specs.Texts.{texts};
 ghost use Rattle.knowledge.specs.Understood.{Knows};
-ghost use Rattle.rules.specs.Scope.{Scope, is_processed_in};
+ghost use Rattle.rules.specs.Scope.{is_processed_in};
 ghost use Rattle.rules.specs.Steps.{is_dispensable};
 ghost use Rattle.rules.specs.States.{state_by, state_in};
-ghost use Rattle.scope.specs.Entries.{ignorables_of, processed_of};
-ghost use Rattle.judge.specs.Tags.{tag_of};
-ghost use Rattle.understood.specs.Answers.{Knowing};
 
-use crate::space::is_dispensable;
-use file::texts::Texts;
+use crate::view::View;
 use judge::element::Element;
 use rules::state::State;
-use scope::entries::{Mark, Pair};
 use scope::find::is_paired;
 use text::names::McElement;
-use understood::Understood;
 
-// The state of an element that is neither of markup compatibility nor in an extension element.
-fn state_outside(
-    element: Element<'_, '_>,
-    lent: Texts<'_>,
-    u: &Understood,
-    marks: &[Mark],
-    pairs: &[Pair],
-) -> State
-    ensures { (knows : Knows) → Knowing (texts lent.entry) knows u.now → result ≡ state_by false None (is_dispensable knows (ignorables_of (texts lent.entry) marks.now) (tag_of (texts lent.entry) element.entry).namespace) (is_processed_in (processed_of (texts lent.entry) pairs.now) (tag_of (texts lent.entry) element.entry).namespace (tag_of (texts lent.entry) element.entry).name) }
-{
-    let start = element.start.row;
-    if !is_dispensable(start.a, lent, u, marks) {
-        return State::Kept;
-    }
-    if is_paired(lent.at(start.a), lent.at(start.b), lent, pairs) {
-        return State::Unwrapped;
-    }
-    State::Ignored
-}
+impl<'a> View<'a> {
+    ghost use Rattle.verdict.specs.Views.{scope_seen, tag_seen, Sees};
 
-// The state of an element; `extension` says that it is on the extension list or inside such an element.
-pub fn state_of(
-    element: Element<'_, '_>,
-    lent: Texts<'_>,
-    u: &Understood,
-    extension: bool,
-    marks: &[Mark],
-    pairs: &[Pair],
-) -> State
-    ensures { (knows : Knows) (s : Scope) → Knowing (texts lent.entry) knows u.now → s.ignorables ≡ ignorables_of (texts lent.entry) marks.now → s.processed ≡ processed_of (texts lent.entry) pairs.now → result ≡ state_in knows extension s (tag_of (texts lent.entry) element.entry) }
-{
-    if extension {
-        return State::Extension;
+    // The state of an element that is neither of markup compatibility nor in an extension element.
+    #[tactic(auto, unfolding(rules::specs::States::state_by))]
+    fn state_outside(self, element: Element<'_, '_>) -> State
+        ensures { (knows : Knows) → Sees self.entry knows → result ≡ state_by false None (is_dispensable knows (scope_seen self.entry).ignorables (tag_seen self.entry element.entry).namespace) (is_processed_in (scope_seen self.entry).processed (tag_seen self.entry element.entry).namespace (tag_seen self.entry element.entry).name) }
+    {
+        let start = element.start.row;
+        if !self.is_dispensable(start.a) {
+            State::Kept
+        } else if is_paired(
+            self.lent.at(start.a),
+            self.lent.at(start.b),
+            self.lent,
+            self.scope.pairs(),
+        ) {
+            State::Unwrapped
+        } else {
+            State::Ignored
+        }
     }
-    match element.mc(lent) {
-        Some(McElement::AlternateContent) => State::Alternate,
-        Some(McElement::Choice) => State::Branch,
-        Some(McElement::Fallback) => State::Branch,
-        None => state_outside(element, lent, u, marks, pairs),
+
+    // The state of an element; `extension` says that it is on the extension list or inside such an element.
+    #[tactic(auto, unfolding(rules::specs::States::state_by, rules::specs::States::state_in))]
+    pub fn state_of(self, element: Element<'_, '_>, extension: bool) -> State
+        ensures { (knows : Knows) → Sees self.entry knows → result ≡ state_in knows extension (scope_seen self.entry) (tag_seen self.entry element.entry) }
+    {
+        if extension {
+            return State::Extension;
+        }
+        match element.mc(self.lent) {
+            Some(McElement::AlternateContent) => State::Alternate,
+            Some(McElement::Choice | McElement::Fallback) => State::Branch,
+            None => self.state_outside(element),
+        }
     }
 }
