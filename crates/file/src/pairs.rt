@@ -11,6 +11,7 @@ pub(crate) fn pair_count(pairs: &[u8]) -> usize
     pairs.len() / 8
 }
 
+#[tactic(auto, unfolding(crate::specs::Form::offset))]
 fn offset_of(pairs: &[u8], k: usize) -> usize
     requires { k < pair_count pairs.now }
     ensures { result ≡ offset pairs.now k }
@@ -19,6 +20,7 @@ fn offset_of(pairs: &[u8], k: usize) -> usize
 }
 
 // Where the text of a pair ends. The sum is taken in 64 bits, so it does not wrap.
+#[tactic(auto, unfolding(crate::specs::Form::ending, crate::specs::Form::offset))]
 fn end_of(pairs: &[u8], k: usize) -> usize
     requires { k < pair_count pairs.now }
     ensures { result ≡ ending pairs.now k }

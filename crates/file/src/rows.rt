@@ -26,6 +26,7 @@ impl<'a> Iterator for Rows<'a> {
     }
 }
 
+#[tactic(auto, unfolding(crate::specs::Form::row_of))]
 pub(crate) fn row_at(rows: &[u8], i: usize) -> Row
     requires { 16 * i + 16 ≤ length rows.now }
     ensures { result ≡ row_of rows.now i }

@@ -18,6 +18,7 @@ impl<'a> Texts<'a> {
     ghost use Rattle.file.specs.Texts.{texts, texts_answer};
 
     // The texts of a table, or the first pair that is misplaced, or the first that is repeated.
+    #[tactic(auto, unfolding(crate::specs::Form::read_texts))]
     pub(crate) fn check(pairs: &'a [u8], bytes: &'a [u8]) -> Result<Texts<'a>, Refusal>
         requires { pair_count pairs.now ≤ 1024 }
         ensures answer { texts_answer result ≡ read_texts pairs.now bytes.now }

@@ -20,8 +20,7 @@ impl<'a> fmt::Display for Plain<'a> {
 
 impl<'a> fmt::Display for Quoted<'a> {
     fn fmt<W: fmt::Write>(&self, f: &mut fmt::Formatter<W>) -> fmt::Result {
-        let text = Plain(self.0);
-        write!(f, "\"{text}\"")
+        write!(f, "\"{}\"", Plain(self.0))
     }
 }
 

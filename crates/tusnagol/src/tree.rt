@@ -15,10 +15,7 @@ impl<'a> fmt::Display for Numbered<'a> {
     fn fmt<W: fmt::Write>(&self, f: &mut fmt::Formatter<W>) -> fmt::Result {
         let number = self.number;
         match self.texts.get(number) {
-            Some(text) => {
-                let text = Plain(text);
-                write!(f, "{text}")
-            }
+            Some(text) => write!(f, "{}", Plain(text)),
             None => write!(f, "(no text {number})"),
         }
     }
@@ -70,18 +67,15 @@ impl<'a> Line<'a> {
     }
 
     fn write_declaration<W: fmt::Write>(&self, f: &mut fmt::Formatter<W>) -> fmt::Result {
-        let prefix = self.quoted(self.row.a);
         let namespace = self.quoted(self.row.b);
         if self.row.a == 0 {
             return write!(f, "declares the default prefix as {namespace}");
         }
-        write!(f, "declares {prefix} as {namespace}")
+        write!(f, "declares {} as {namespace}", self.quoted(self.row.a))
     }
 
     fn write_attribute<W: fmt::Write>(&self, f: &mut fmt::Formatter<W>) -> fmt::Result {
-        let name = self.name();
-        let value = self.quoted(self.row.c);
-        write!(f, "attribute {name} = {value}")
+        write!(f, "attribute {} = {}", self.name(), self.quoted(self.row.c))
     }
 
     fn write_unknown<W: fmt::Write>(&self, f: &mut fmt::Formatter<W>) -> fmt::Result {
@@ -93,16 +87,10 @@ impl<'a> Line<'a> {
 impl<'a> fmt::Display for Line<'a> {
     fn fmt<W: fmt::Write>(&self, f: &mut fmt::Formatter<W>) -> fmt::Result {
         match Kind::try_from(self.row.kind) {
-            Ok(Kind::Start) => {
-                let name = self.name();
-                write!(f, "element {name}")
-            }
+            Ok(Kind::Start) => write!(f, "element {}", self.name()),
             Ok(Kind::Declaration) => self.write_declaration(f),
             Ok(Kind::Attribute) => self.write_attribute(f),
-            Ok(Kind::Text) => {
-                let text = self.quoted(self.row.a);
-                write!(f, "text {text}")
-            }
+            Ok(Kind::Text) => write!(f, "text {}", self.quoted(self.row.a)),
             _ => self.write_unknown(f),
         }
     }
@@ -135,6 +123,7 @@ fn print_row<L: fmt::Display>(
     depth: usize,
     line: &L,
 ) -> io::Result<()> {
+    // Two blanks for each level.
     let indent = depth.saturating_mul(2);
     println!(rt; "{place:>6}  {blank:indent$}{line}", blank = "")
 }

@@ -8,15 +8,12 @@ pub struct Explained(pub Refusal);
 impl fmt::Display for Explained {
     fn fmt<W: fmt::Write>(&self, f: &mut fmt::Formatter<W>) -> fmt::Result {
         let refusal = self.0;
-        let number = refusal.number();
-        write!(f, "refused: {number}")?;
+        write!(f, "refused: {}", refusal.number())?;
         if let Some(unit) = unit(refusal) {
-            let place = refusal.place();
-            write!(f, " at {unit} {place}")?;
+            write!(f, " at {unit} {}", refusal.place())?;
         }
         if let Some(cause) = refusal.cause() {
-            let cause = u32::from(cause);
-            write!(f, " cause {cause}")?;
+            write!(f, " cause {}", u32::from(cause))?;
         }
         write!(f, ": {refusal}")
     }

@@ -1,16 +1,8 @@
-use Rattle.std.proofs.Common.{not, is_some, sym, ap, rules}
+use Rattle.std.proofs.Common.{not, is_some, sym, ap}
 use Rattle.file.specs.Form.{read_texts}
 use Rattle.file.specs.Texts.{texts}
 use Rattle.file.proofs.Sound.{distinct_texts}
 use Rattle.file.proofs.texts.Texts.check.Goals as goal
-
-pub returns-in-Some : goal.returns-in-Some
-unfolding read_texts
-returns-in-Some c = search rules
-
-pub returns-in-Some-first_repeated : goal.returns-in-Some-first_repeated
-unfolding read_texts
-returns-in-Some-first_repeated c = search rules
 
 pub returns : goal.returns
 unfolding read_texts texts
