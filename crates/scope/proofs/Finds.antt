@@ -3,7 +3,9 @@ use Rattle.std.proofs.Common.{◌≡◌, Bool, true, false, cond, List, [], ◌�
 use Rattle.std.specs.Option.{option_map}
 use Rattle.std.specs.List.{find}
 use Rattle.std.proofs.lemmas.List.{map-append, reverse-append}
-use Rattle.rules.specs.Scope.{first_with}
+use Rattle.text.specs.Names.{xml_namespace}
+use Rattle.rules.specs.Scope.{first_with, bound, is_ignorable_in, is_processed_in}
+use Rattle.scope.specs.Entries.{bindings_of, ignorables_of, processed_of, local_of}
 
 -- the rules' search is std's
 pub found_with : {E : Type 0} (test : E → Bool) (xs : List E) → find test xs ≡ first_with test xs
@@ -38,3 +40,8 @@ module _ {E X : Type 0} (f : E → X) (test : X → Bool) (xs : List E) where
 
   pub newest_found : (o : Option E) → o ≡ first_with (λ e. test (f e)) (reverse xs) → is_some o ≡ is_some (first_with test (reverse (map f xs)))
   newest_found o h = sym (some_mapped f o) ∙ ap is_some (newest_meant o h)
+
+-- opens what entries mean, and the rules' searches through it
+unfoldable pub open_entries : Unit {0}
+unfolding xml_namespace bound is_ignorable_in is_processed_in bindings_of ignorables_of processed_of local_of
+open_entries = tt

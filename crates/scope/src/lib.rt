@@ -1,5 +1,5 @@
 // What is in scope at an element: three lists of entries, and the one search.
-#![tactic(auto, using(crate::proofs::Finds::newest_found), unfolding(text::specs::Names::xml_namespace, rules::specs::Scope::open_scope, crate::specs::Entries::bindings_of, crate::specs::Entries::ignorables_of, crate::specs::Entries::processed_of, crate::specs::Entries::local_of))]
+#![tactic(auto, using(crate::proofs::Finds::newest_found), unfolding(crate::proofs::Finds::open_entries))]
 
 pub mod bounded;
 pub mod entries;
