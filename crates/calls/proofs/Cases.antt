@@ -64,8 +64,7 @@ Mismatched e = (numbered e).number ≡ 22
 
 one-mark : (b : Bool) (p : ℕ) (c : Cause) → Every Mismatched (mark b p c)
 unfolding mark
-one-mark true p c = record { at = λ x i. elim i [ inl e ↦ ap (λ r. (numbered r).number) e | inr j ↦ absurd j ] }
-one-mark false p c = every_none
+one-mark b p c = grind arith
 
 attrs-numbered : (K : Knows) (h k : Bool) (s : Scope) (xs : List Attr) → Every Mismatched (attr_marks K h k s xs)
 unfolding attr_marks

@@ -54,8 +54,7 @@ module _ (texts : List Bytes) (K : Knows) (ext : List Name) (rows : List Row) (w
 
 loose-one : (b : Bool) (x : PlacedRow) → Loose (when b x)
 unfolding when
-loose-one true x = inl refl
-loose-one false x = inl tt
+loose-one b x = grind arith
 
 module _ (t : Taken) where
   tag-text : (x k b : Bool) (igs : List Bytes) (s : Tag) (y : PlacedRow) → TokenTrue t.texts (tag s) → IsKind Text y

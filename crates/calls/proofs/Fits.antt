@@ -119,8 +119,7 @@ Above None m = Unit {0}
 Above (Some p) m = p < m
 
 above : (l : Option ℕ) (m p : ℕ) → Above l m → m ≤ p → is_above l p ≡ true
-above None m p h k = refl
-above (Some q) m p h k = lt-ltb q p (omega arith)
+above l m p h x = grind arith
 
 abbrev pub places_of : List PlacedRow → List ℕ
 places_of xs = map (λ (x : PlacedRow). x.place) xs

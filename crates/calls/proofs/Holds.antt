@@ -67,24 +67,18 @@ Low (Ok x) = Unit {0}
 Low (Err e) = (numbered e).number ≤ 5
 
 low_test : {X : Type 0} (b : Bool) (e : Refusal) (rest : Result X Refusal) → (numbered e).number ≤ 5 → Low rest → Low (refuse b e rest)
-low_test true e rest h k = h
-low_test false e rest h k = k
+low_test b e rest h x = grind arith
 
 low_at : {X : Type 0} (o : Option ℕ) (f : ℕ → Refusal) (rest : Result X Refusal) → ((n : ℕ) → (numbered (f n)).number ≤ 5) → Low rest
     → Low (refuse_at o f rest)
-low_at None f rest h k = k
-low_at (Some n) f rest h k = h n
+low_at o f rest h x = grind arith
 
 low_rows : (rows : List Row) (c : Result (List Bytes) Refusal) → Low c → Low (read_rows rows c)
-low_rows rows (Ok x) h = tt
-low_rows rows (Err e) h = h
+low_rows rows c h = grind arith
 
 texts_low : (pairs bytes : Bytes) → Low (read_texts pairs bytes)
 unfolding read_texts
-texts_low pairs bytes =
-    low_at (first_from (misplaced pairs (length bytes)) 0 (pair_count pairs)) MisplacedText
-    (refuse_at (first_from (repeated pairs bytes) 0 (pair_count pairs)) RepeatedText (Ok (texts_of pairs bytes))) (λ n. omega arith)
-    (low_at (first_from (repeated pairs bytes) 0 (pair_count pairs)) RepeatedText (Ok (texts_of pairs bytes)) (λ n. omega arith) tt)
+texts_low pairs bytes = grind arith
 
 opened_low : (bytes : Bytes) → Low (opened bytes)
 unfolding opened

@@ -21,8 +21,7 @@ abbrev pub Spoils : Refusal → Type 0
 Spoils e = (13 ≤ (numbered e).number) × ((numbered e).number ≤ 21)
 
 pub first_in : {X : Type 0} (x : X) (xs : List X) → first xs ≡ Some x → In x xs
-first_in x [] h = absurd (cc)
-first_in x (y ∷ xs) h = inl (cc)
+first_in x xs h = grind arith
 
 -- A refusal: nothing is sealed; it is 13 to 21 or 23, and 13 to 21 if the rows fit.
 abbrev pub Refusing : Result (Unit {0}) Refusal → Model → Model → List PlacedRow → Type 0
@@ -33,8 +32,7 @@ room : (e : Refusal) → (numbered e).number ≡ 21 → Spoils e
 room e k = (omega arith, omega arith)
 
 either : (e : Refusal) → ((numbered e).number ≡ 21) ⊎ ((numbered e).number ≡ 23) → Spoils e ⊎ ((numbered e).number ≡ 23)
-either e (inl k) = inl (room e k)
-either e (inr k) = inr k
+either e h = grind arith
 
 then_ok : (here next : Put) → here.answer ≡ Ok tt → then_put here.answer here next ≡ next
 then_ok here next h = ap (λ a. then_put a here next) h
@@ -73,12 +71,7 @@ module _ (t : Taken) where
 
       go : (o : Option Refusal) → first (faults_of t.knows t.extensions x past) ≡ o → PutsEnd (all_answer m kept) (after_all m kept) m kept
           → OneEnds (put_unless o m kept) m x past
-      go (Some e) q h =
-          let n = faults_are_numbered t.knows t.extensions x past e (first_in e _ q) in
-          let s : Spoils e = (n.0, omega (arith, n.1)) in
-          inr (e, refl, refl, inl s, λ f. s)
-      go None q (inl h) = inl (h.0, h.1, first-none _ q)
-      go None q (inr h) = inr (h.0, h.1, h.2, either h.0 h.3, λ f. room h.0 (h.4 f))
+      go o h y = grind arith
 
   -- All tokens are put, and have no refusal of their own; or one is refused.
   abbrev pub TokensEnd : Put → Model → List Token → List Token → Type 0

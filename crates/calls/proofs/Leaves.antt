@@ -74,8 +74,7 @@ row_ends (spoilt b) r m w = inr (Spoilt, inl (inl (omega arith, omega arith), re
 row_ends (active b) r m w = tried-ends b r m w (first (faults_at b r)) refl
 
 row-answer : (rd : Reading) (m : Model) (o : Out) (e : Refusal) → RowLeaves rd m o e → o.answer ≡ Refused e
-row-answer rd m o e (inl h) = ap (λ (o : Out). o.answer) h.1
-row-answer rd m o e (inr h) = ap (λ (o : Out). o.answer) h.3
+row-answer rd m o e h = grind arith
 
 pub row_refusals_leave : RowRefusalsLeave
 row_refusals_leave rd r m e w a = go (row_ends rd r m w)
@@ -121,8 +120,7 @@ finish-ends (spoilt b) m = inr (Spoilt, inl (inl (omega arith, omega arith), ref
 finish-ends (active b) m = ended-ends b m (has_ended (tokens_of b))
 
 finish-answer : (rd : Reading) (m : Model) (o : Out) (e : Refusal) → FinishLeaves rd m o e → o.answer ≡ Refused e
-finish-answer rd m o e (inl h) = ap (λ (o : Out). o.answer) h.1
-finish-answer rd m o e (inr h) = ap (λ (o : Out). o.answer) h.1
+finish-answer rd m o e h = grind arith
 
 pub finish_refusals_leave : FinishRefusalsLeave
 finish_refusals_leave rd m e a = go (finish-ends rd m)

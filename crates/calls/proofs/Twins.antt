@@ -97,9 +97,7 @@ module _ (n i : ℕ) (f : ℕ → Option Begun) where
       below = let l = h.0 in omega arith
 
       go : (o : Out) → FinishCase b m o → Onward finish o
-      go o (inl x) = subst (Onward finish) (sym x.1) (below, ap unless_ended h.1 ∙ ap (λ y. cond y None (Some b)) x.0)
-      go o (inr (inl x)) = subst (Onward finish) (sym x.3) tt
-      go o (inr (inr x)) = subst (Onward finish) (sym x.1) tt
+      go o y = grind arith
 
   abandon-tracks : (rd : Reading) (m : Model) → Onward abandon (abandon_on rd m)
   unfolding abandon_on
@@ -228,8 +226,7 @@ told-alike i (more {c} {d} {past} {other} s ss) =
     (onward-alike s (eqb (length past) i) (told-alike i ss))
 
 both_told : {o o' : Option Begun} → Alike o o' → (b b' : Begun) → o ≡ Some b → o' ≡ Some b' → Like b b'
-both_told neither b b' p q = absurd (cc)
-both_told (alike {b = d} {b' = d'} a) b b' p q = subst₂ Like (same_Some d b p) (same_Some d' b' q) a
+both_told h b b' x y = grind arith
 
 one_told : {o o' : Option Begun} → Alike o o' → (b : Begun) → ((o ≡ None) × (o' ≡ Some b)) ⊎ ((o ≡ Some b) × (o' ≡ None)) → ⊥
 one_told a b h = grind arith
