@@ -1,6 +1,5 @@
 -- A row, judged by code: each way that it can go.
-use Rattle.std.proofs.Common.{◌≡◌, ℕ, ◌<◌, Bool, true, false, ◌&&◌, List, [], ◌∷◌, ◌++◌, reverse, length, is_some, Some, None, Ok, Err, Option, Result, sym, refl, ap, ◌∙◌, subst, arith}
-use mathlib.Core.Bool.{false≢true}
+use Rattle.std.proofs.Common.{◌≡◌, ◌<◌, Bool, true, false, ◌&&◌, List, [], ◌∷◌, ◌++◌, reverse, length, is_some, Some, None, Ok, Err, Option, Result, sym, refl, ap, ◌∙◌, subst, arith}
 use mathlib.Core.List.{tail}
 use Rattle.std.proofs.lemmas.Result.{IfOk-at_ok}
 use Rattle.record.specs.declared.row.Row.{Row}
@@ -33,17 +32,14 @@ use Rattle.course.specs.Taking.{wait_put, with_opened, with_mark, closed_at, sco
 use Rattle.course.proofs.Waits.{all_of, held-length}
 use Rattle.course.proofs.Turns.{put_of, row_is, decl_put, attr_put, start-put, text-refused, end_refused_before, text-put, end-put, end-first, closed}
 
-err_same : (a b : Refusal) → ◌≡◌ {A = Result (Unit {0}) Refusal} (Err a) (Err b) → a ≡ b
-err_same a b e = cc
-
 -- the answer of an accepted or refused put, by its refusal
 
 ok_of : (a : Result (Unit {0}) Refusal) → None ≡ refusal_of a → a ≡ Ok tt
 ok_of (Ok u) e = refl
-ok_of (Err r) e = let z : ◌≡◌ {A = ℕ} 0 1 = cc in absurd (omega arith)
+ok_of (Err r) e = absurd (cc)
 
 err_of : (a : Result (Unit {0}) Refusal) (r : Refusal) → Some r ≡ refusal_of a → a ≡ Err r
-err_of (Ok u) r e = let z : ◌≡◌ {A = ℕ} 0 1 = cc in absurd (omega arith)
+err_of (Ok u) r e = absurd (cc)
 err_of (Err q) r e = let z : q ≡ r = cc in ap Err z
 
 module _ (t : Taken) (rows : List Row) (row : Row) (kind : Kind) (k : kind_of row.kind ≡ Some kind) (m : Model) where
@@ -56,19 +52,19 @@ module _ (t : Taken) (rows : List Row) (row : Row) (kind : Kind) (k : kind_of ro
   -- A declaration or an attribute waits with its element.
 
   plain_put : (kind : Kind) → of_tag kind ≡ true → put_of t rows row m kind ≡ put (Ok tt) m
-  plain_put Start e = absurd (false≢true e)
+  plain_put Start e = absurd (cc)
   plain_put Declaration e = decl_put t rows row m
   plain_put Attribute e = attr_put t rows row m
-  plain_put Text e = absurd (false≢true e)
-  plain_put End e = absurd (false≢true e)
+  plain_put Text e = absurd (cc)
+  plain_put End e = absurd (cc)
 
   plain_tokens : (kind : Kind) → of_tag kind ≡ true → newly_judged (Some kind) x toks ++ judged toks ≡ judged toks
   unfolding newly_judged
-  plain_tokens Start e = absurd (false≢true e)
+  plain_tokens Start e = absurd (cc)
   plain_tokens Declaration e = refl
   plain_tokens Attribute e = refl
-  plain_tokens Text e = absurd (false≢true e)
-  plain_tokens End e = absurd (false≢true e)
+  plain_tokens Text e = absurd (cc)
+  plain_tokens End e = absurd (cc)
 
   pub judged_plain : (c : Course) → Stands t.texts t.knows t.extensions rows c → of_tag kind ≡ true
       → Judged t rows x kind c c m m (Ok tt)
@@ -81,15 +77,15 @@ module _ (t : Taken) (rows : List Row) (row : Row) (kind : Kind) (k : kind_of ro
         settled =
             subst (λ (l : List Token). Settled t.knows t.extensions l (scope_of t.texts c.scope) (frames_of c) c.mismatch)
             (sym (plain_tokens kind e)) h.settled;
-        left = λ r f. let z : ◌≡◌ {A = ℕ} 0 1 = cc in absurd (omega arith);
+        left = λ r f. absurd (cc);
       }
 
   -- The element that waits is refused.
 
   refused-put : (kind : Kind) (e : Refusal) → of_tag kind ≡ false → (wait_put t rows m).answer ≡ Err e → put_of t rows row m kind ≡ wait_put t rows m
   refused-put Start e o f = start-put t rows row m
-  refused-put Declaration e o f = absurd (false≢true (sym o))
-  refused-put Attribute e o f = absurd (false≢true (sym o))
+  refused-put Declaration e o f = absurd (cc)
+  refused-put Attribute e o f = absurd (cc)
   refused-put Text e o f = text-refused t rows row m e f
   refused-put End e o f = end_refused_before t rows row m e f
 
@@ -105,7 +101,7 @@ module _ (t : Taken) (rows : List Row) (row : Row) (kind : Kind) (k : kind_of ro
           sheet = w.sheet ∙ ap (λ (q : Put). q.sheet) (sym p);
           settled = rw ret tt;
           left = λ e' f g.
-              let q : e ≡ e' = err_same e e' (sym ret ∙ f) in
+              let q : e ≡ e' = cc in
               (w.left e (ap refusal_of is) (ap is_of_sheet q ∙ g), same-frames, same-mark);
         }
 
@@ -139,8 +135,8 @@ module _ (t : Taken) (rows : List Row) (row : Row) (kind : Kind) (k : kind_of ro
 
       row_put_lem : (kind : Kind) → of_tag kind ≡ false → put_of t rows row m kind ≡ row_in (wait_put t rows m).sheet (innermost fs) kind x
       row_put_lem Start e = start-put t rows row m ∙ start-row (wait_put t rows m) (innermost fs) waited_ok
-      row_put_lem Declaration e = absurd (false≢true (sym e))
-      row_put_lem Attribute e = absurd (false≢true (sym e))
+      row_put_lem Declaration e = absurd (cc)
+      row_put_lem Attribute e = absurd (cc)
       row_put_lem Text e = text-put t rows row m s fs mark between waited_ok
       row_put_lem End e = end-put t rows row m s fs mark between waited_ok
 
@@ -165,7 +161,7 @@ module _ (t : Taken) (rows : List Row) (row : Row) (kind : Kind) (k : kind_of ro
 
         none_of_lem : (v : Option Refusal) → (put_unless v m' (when (around.entered && keeps_in around.state kind) x)).answer ≡ Ok tt → v ≡ None
         none_of_lem None f = refl
-        none_of_lem (Some e) f = let z : ◌≡◌ {A = ℕ} 0 1 = cc in absurd (omega arith)
+        none_of_lem (Some e) f = absurd (cc)
 
         unrefused : r ≡ Ok tt → first (fault (ends_empty around kind) (Misplaced x.place)) ≡ None
         unrefused f = none_of_lem _ (ap (λ (q : Put). q.answer) (sym p) ∙ f)
@@ -175,8 +171,8 @@ module _ (t : Taken) (rows : List Row) (row : Row) (kind : Kind) (k : kind_of ro
             → Settled t.knows t.extensions (newly_judged (Some kind) x toks ++ judged toks) (scope_at kind fs s) (closed_at kind fs) mark
         unfolding newly_judged
         closing Start e l f u = subst (λ (l : List Token). Settled t.knows t.extensions l s fs mark) (sym (all_of toks)) between
-        closing Declaration e l f u = absurd (false≢true (sym e))
-        closing Attribute e l f u = absurd (false≢true (sym e))
+        closing Declaration e l f u = absurd (cc)
+        closing Attribute e l f u = absurd (cc)
         closing Text e l f u =
             subst (λ (l : List Token). Settled t.knows t.extensions (text x ∷ l) s fs mark) (sym (all_of toks))
             (text-settled t.knows t.extensions toks s fs mark between x)
@@ -202,7 +198,7 @@ module _ (t : Taken) (rows : List Row) (row : Row) (kind : Kind) (k : kind_of ro
                   (subst (λ (z : List Held). Settled t.knows t.extensions (newly_judged (Some kind) x toks ++ judged toks) (scope_of t.texts d'.scope) z mark) (sym g)
                   (subst (λ (z : Scope). Settled t.knows t.extensions (newly_judged (Some kind) x toks ++ judged toks) z (closed_at kind fs) mark) (sym j)
                   (closing kind n k faultless (ap (λ (h : Held). first (fault (ends_empty h kind) (Misplaced x.place))) (sym a) ∙ unrefused f))));
-              left = λ e q. let z : ◌≡◌ {A = ℕ} 0 1 = cc in absurd (omega arith);
+              left = λ e q. absurd (cc);
             }
 
 -- The same of a row with its place, as the code has it.
@@ -246,7 +242,7 @@ pub fits-of : (t : Taken) (rows : List Row) (c : Course) → Stands t.texts t.kn
     → (s : Scope) (o : Option Opened) (mark : Option Refusal)
     → Settled t.knows t.extensions (tokens t.texts rows) s (with_opened o (frames_of c)) mark
     → is_some o ≡ true → length (frames_of c) < 64
-fits-of t rows c h s None mark e f = absurd (false≢true f)
+fits-of t rows c h s None mark e f = absurd (cc)
 fits-of t rows c h s (Some o) mark e f =
     let a = held-length t.knows t.extensions (tokens t.texts rows) s (with_opened (Some o) (frames_of c)) mark e in
     let b = h.few in

@@ -1,5 +1,5 @@
 -- A row taken by code.
-use Rattle.std.proofs.Common.{◌≡◌, ℕ, List, [], ◌∷◌, ◌++◌, reverse, length, Some, Ok, Err, Option, Result, sym, ap, ◌∙◌, subst, arith}
+use Rattle.std.proofs.Common.{◌≡◌, ℕ, List, [], ◌∷◌, ◌++◌, reverse, length, Some, Ok, Err, Option, Result, sym, ap, ◌∙◌, subst}
 use Rattle.std.proofs.lemmas.Result.{IfOk-at_ok}
 use Rattle.record.specs.declared.row.Row.{Row}
 use Rattle.record.specs.declared.row.PlacedRow.{PlacedRow}
@@ -56,7 +56,7 @@ module _ (t : Taken) (rows : List Row) (row : Row) (kind : Kind) (k : kind_of ro
             (subst (λ (z : Option Refusal). Settled t.knows t.extensions now_judged (scope_of t.texts e.scope) (frames_of e) z) (sym l)
             (subst (λ z. Settled t.knows t.extensions now_judged (scope_of t.texts e.scope) (reverse (held z)) d.mismatch) (sym g)
             (subst (λ z. Settled t.knows t.extensions now_judged (scope_of t.texts z) (frames_of d) d.mismatch) (sym b) settled))));
-        left = λ q is o. let z : ◌≡◌ {A = ℕ} 0 1 = cc in absurd (omega arith);
+        left = λ q is o. absurd (cc);
       }
 
   -- the row is refused; what its element brought into scope goes

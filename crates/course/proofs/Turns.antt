@@ -1,6 +1,5 @@
 -- One row more.
 use Rattle.std.proofs.Common.{◌≡◌, ◌≤◌, true, false, not, ◌&&◌, ◌||◌, leb, List, [], ◌∷◌, ◌++◌, length, Some, None, Ok, Err, Option, Result, sym, refl, ap, ◌∙◌, subst, arith}
-use mathlib.Core.Bool.{false≢true}
 use Rattle.std.proofs.lemmas.Bool.{leb-false}
 use Rattle.record.specs.declared.row.Row.{Row}
 use Rattle.record.specs.declared.row.PlacedRow.{PlacedRow}
@@ -176,7 +175,7 @@ module _ (t : Taken) (rows : List Row) (r : Row) (kind : Kind) (k : kind_of r.ki
       let g : not (is_none (around before)) ≡ true = ap (λ (q : Kind). is_in_order (Some q) before) (sym e) ∙ o in grind arith
 
   one_more : (fs : List Held) (es : List Element) → length fs ≡ length es → is_none es ≡ false → (g : Held) × (rest : List Held) × (fs ≡ g ∷ rest)
-  one_more [] [] e n = absurd (false≢true (sym n))
+  one_more [] [] e n = absurd (cc)
   one_more [] (x ∷ es) e n = absurd (omega arith)
   one_more (g ∷ rest) es e n = (g, rest, refl)
 

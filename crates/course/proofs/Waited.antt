@@ -1,5 +1,5 @@
 -- The element that waits, judged by code: each way that it can go.
-use Rattle.std.proofs.Common.{◌≡◌, ℕ, true, List, [], ◌∷◌, Some, None, Ok, Err, Option, Result, sym, ap, ◌∙◌, subst, inl, arith}
+use Rattle.std.proofs.Common.{◌≡◌, true, List, [], ◌∷◌, Some, None, Ok, Err, Option, Result, sym, ap, ◌∙◌, subst, inl, arith}
 use Rattle.std.proofs.lemmas.Bool.{eqb-true}
 use Rattle.record.specs.declared.row.Row.{Row}
 use Rattle.record.specs.declared.refusal.Refusal.{Refusal}
@@ -31,7 +31,7 @@ use Rattle.course.proofs.Waits.{none-put, none-settled, one-refused, one_faulted
 -- a refusal of the rules is none of a sheet
 
 first_in : {X : Type 0} (x : X) (xs : List X) → first xs ≡ Some x → In x xs
-first_in x [] e = let z : ◌≡◌ {A = ℕ} 0 1 = cc in absurd (omega arith)
+first_in x [] e = absurd (cc)
 first_in x (y ∷ ys) e = let q : x ≡ y = cc in inl q
 
 pub not_of_sheet : (K : Knows) (ext : List Name) (x : Token) (past : List Token) (e : Refusal) → first (faults_of K ext x past) ≡ Some e
@@ -43,9 +43,6 @@ not_of_sheet K ext x past e f h =
 
 grown-none : (s : Scope) → Grown s s
 grown-none s = record { back = before_all s; within = (omega arith, omega arith, omega arith) }
-
-some_same : (a b : Refusal) → ◌≡◌ {A = Option Refusal} (Some a) (Some b) → a ≡ b
-some_same a b e = cc
 
 module _ (t : Taken) (rows : List Row) (c : Course) (h : Stands t.texts t.knows t.extensions rows c) where
   abbrev toks : List Token
@@ -61,7 +58,7 @@ module _ (t : Taken) (rows : List Row) (c : Course) (h : Stands t.texts t.knows 
         sheet = ap (λ (p : Put). p.sheet) (sym (none-put t rows c h m e));
         settled = none-settled t rows c h e;
         grown = grown-none s;
-        left = λ r f. let z : ◌≡◌ {A = ℕ} 0 1 = cc in absurd (omega arith);
+        left = λ r f. absurd (cc);
       }
 
   module _ (tg : Tag) (w : waiting toks ≡ tag tg ∷ []) (around : Held) (a : around ≡ innermost (frames_of c)) (d : Course) (m m' : Model) where
@@ -84,7 +81,8 @@ module _ (t : Taken) (rows : List Row) (c : Course) (h : Stands t.texts t.knows 
           settled = rw is tt;
           grown = rw is tt;
           left = λ r' g o.
-              let q : e ≡ r' = some_same e r' (sym (ap refusal_of is) ∙ g) in
+              let said : refusal_of r ≡ Some e = ap refusal_of is in
+              let q : e ≡ r' = cc in
               absurd (not_of_sheet t.knows t.extensions (tag tg) (judged toks) e (one_faulted t rows c h tg w e (here-answered (Some e) f)) (ap is_of_sheet q ∙ o));
         }
 

@@ -50,7 +50,7 @@ placed-inside a b i t e x =
 
 inside : (x y : Bool) (K : Knows) (s : Scope) (a b : Bool) (t : Tag) → tag_faults x y K s a b t ≡ [] → x ≡ false → is_branch t ≡ true → a ≡ true
 unfolding tag_faults element_faults
-inside true y K s a b t e x br = absurd (false≢true (sym x))
+inside true y K s a b t e x br = absurd (cc)
 inside false true K s a b t e x br = placed-inside a b _ t e br
 inside false false K s a b t e x br = placed-inside a b _ t (right_nil _ _ (left_nil _ _ (left_nil _ _ (left_nil _ _ e)))) br
 

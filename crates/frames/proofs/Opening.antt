@@ -31,7 +31,7 @@ alternate_only Unwrapped e = refl
 alternate_only Ignored e = refl
 alternate_only Alternate e = refl
 alternate_only Branch e = refl
-alternate_only Extension e = absurd (false≢true e)
+alternate_only Extension e = absurd (cc)
 
 listed_outside : (ext : List Name) (t : Tag) → OutsideMc ext → is_listed ext t ≡ true → in_mc t.namespace ≡ false
 unfolding is_listed
