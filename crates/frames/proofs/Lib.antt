@@ -1,7 +1,6 @@
 pub mod Agree
 pub mod Stack
 pub mod Settling
-mod Ways
 mod Firsts
 mod Opening
 mod Rows
