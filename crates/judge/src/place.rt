@@ -17,6 +17,17 @@ use scope::entries::{Bound, Mark};
 use scope::find::is_marked;
 use text::names::{is_mc, mc_element};
 
+// Where an element stands.
+#[derive(Clone, Copy, PartialEq, Eq, Debug)]
+pub enum Spot {
+    // Not directly in an AlternateContent.
+    Outside,
+    // Directly in one, and behind no Fallback there.
+    Inside,
+    // Directly in one, behind a Fallback.
+    BehindFallback,
+}
+
 // An element in markup compatibility is one that it has.
 pub fn try_start(element: Element<'_, '_>, lent: Texts<'_>) -> Result<(), Refusal>
     ensures { refusal_of result ≡ first (start_name_faults (tag_of (texts lent.entry) element.entry)) }
@@ -27,17 +38,6 @@ pub fn try_start(element: Element<'_, '_>, lent: Texts<'_>) -> Result<(), Refusa
         });
     }
     Ok(())
-}
-
-// Where an element stands.
-#[derive(Clone, Copy)]
-pub enum Spot {
-    // Not directly in an AlternateContent.
-    Outside,
-    // Directly in one, and behind no Fallback there.
-    Inside,
-    // Directly in one, behind a Fallback.
-    BehindFallback,
 }
 
 // A branch stands directly in AlternateContent and behind no Fallback there; another child of it is in an ignorable namespace.

@@ -119,13 +119,13 @@ impl Waiting {
     pub(crate) fn is_full_of_decls(&self) -> bool
         ensures { (ts : List Bytes) → result ≡ on_tag (λ (t : Tag). nat_le 32 (length t.decls)) (waiting_of ts self.now) }
     {
-        self.is_present() && self.decls.len() >= EACH
+        self.is_present() && self.decls.is_full()
     }
 
     // Whether an element waits that may have no more attributes.
     pub(crate) fn is_full_of_attrs(&self) -> bool
         ensures { (ts : List Bytes) → result ≡ on_tag (λ (t : Tag). nat_le 32 (length t.attrs)) (waiting_of ts self.now) }
     {
-        self.is_present() && self.attrs.len() >= EACH
+        self.is_present() && self.attrs.is_full()
     }
 }
