@@ -5,6 +5,7 @@ use flat::FlatSheet;
 use outline::Outline;
 use outline::entry::{Entry, Span};
 use record::row::{PlacedRow, Row};
+use sheet::rows::Rows;
 use sheet::{Readable, Sheet};
 
 const ROWS: u32 = 2048;
@@ -46,86 +47,55 @@ fn sample(place: u32) -> PlacedRow {
     }
 }
 
-fn put_rows<S: Sheet>(sheet: &mut S) -> usize {
+fn put_rows<S: Sheet>(sheet: &mut S) -> Option<usize> {
     for place in 0..ROWS {
-        if sheet.put(sample(place)).is_err() {
-            return 0;
-        }
+        sheet.put(sample(place)).ok()?;
     }
-    match sheet.seal() {
-        Ok(count) => count,
-        Err(_) => 0,
-    }
+    sheet.seal().ok()
 }
 
 fn read_rows<R: Readable>(readable: &R) -> u64 {
-    let mut sum: u64 = 0;
-    for n in 0..readable.count() {
-        if let Some(placed) = readable.row(n) {
-            sum = sum.wrapping_add(u64::from(placed.place ^ placed.row.a));
-        }
-    }
-    sum
-}
-
-fn place_at<R: Readable>(readable: &R, n: u32) -> u64 {
-    match readable.row(n as usize) {
-        Some(placed) => u64::from(placed.place),
-        None => 0,
-    }
+    Rows::of(readable)
+        .map(|placed| u64::from(placed.place ^ placed.row.a))
+        .fold(0, u64::wrapping_add)
 }
 
 // One round of puts, and a look at one row, so that no put can be left out.
-fn put_flat(entries: &mut [PlacedRow], round: u32) -> u64 {
-    let mut sheet = FlatSheet::new(entries);
-    let count = put_rows(&mut sheet) as u64;
-    count.wrapping_add(place_at(&sheet, round % ROWS))
+fn put_round<S: Sheet + Drop>(mut sheet: S, round: u32) -> u64 {
+    let count = put_rows(&mut sheet).unwrap_or(0) as u64;
+    let row = sheet.row((round % ROWS) as usize);
+    count.wrapping_add(row.map_or(0, |placed| u64::from(placed.place)))
 }
 
-fn put_outline(entries: &mut [Entry], round: u32) -> u64 {
-    let mut sheet = Outline::new(entries);
-    let count = put_rows(&mut sheet) as u64;
-    count.wrapping_add(place_at(&sheet, round % ROWS))
+fn read_rounds<S: Sheet + Drop>(mut sheet: S, rounds: u32) -> u64 {
+    let count = put_rows(&mut sheet).unwrap_or(0) as u64;
+    (0..rounds).fold(count, |sum, _| sum.wrapping_add(read_rows(&sheet)))
 }
 
 #[unsafe(no_mangle)]
 pub extern "C" fn flat_put(rounds: u32) -> u64 {
     let mut entries = [ROW; 2048];
-    let mut sum: u64 = 0;
-    for round in 0..rounds {
-        sum = sum.wrapping_add(put_flat(&mut entries, round));
-    }
-    sum
+    (0..rounds)
+        .map(|round| put_round(FlatSheet::new(&mut entries), round))
+        .fold(0, u64::wrapping_add)
 }
 
 #[unsafe(no_mangle)]
 pub extern "C" fn outline_put(rounds: u32) -> u64 {
     let mut entries = [ENTRY; 2048];
-    let mut sum: u64 = 0;
-    for round in 0..rounds {
-        sum = sum.wrapping_add(put_outline(&mut entries, round));
-    }
-    sum
+    (0..rounds)
+        .map(|round| put_round(Outline::new(&mut entries), round))
+        .fold(0, u64::wrapping_add)
 }
 
 #[unsafe(no_mangle)]
 pub extern "C" fn flat_read(rounds: u32) -> u64 {
     let mut entries = [ROW; 2048];
-    let mut sheet = FlatSheet::new(&mut entries);
-    let mut sum = put_rows(&mut sheet) as u64;
-    for _round in 0..rounds {
-        sum = sum.wrapping_add(read_rows(&sheet));
-    }
-    sum
+    read_rounds(FlatSheet::new(&mut entries), rounds)
 }
 
 #[unsafe(no_mangle)]
 pub extern "C" fn outline_read(rounds: u32) -> u64 {
     let mut entries = [ENTRY; 2048];
-    let mut sheet = Outline::new(&mut entries);
-    let mut sum = put_rows(&mut sheet) as u64;
-    for _round in 0..rounds {
-        sum = sum.wrapping_add(read_rows(&sheet));
-    }
-    sum
+    read_rounds(Outline::new(&mut entries), rounds)
 }
