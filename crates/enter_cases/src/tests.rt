@@ -8,6 +8,7 @@ use enter::in_scope::InScope;
 use file::checked::File;
 use file::texts::Texts;
 use judge::element::Element;
+use judge::place::Spot;
 use record::row::{PlacedRow, Row};
 use std::alloc::{AllocError, Global};
 use std::test::Fail;
@@ -33,20 +34,11 @@ fn rows(
     numbers: &[(u32, u32, u32)],
 ) -> Result<Vec<PlacedRow>, AllocError> {
     let mut made = Vec::new(heap);
-    let mut place = from;
-    for n in numbers {
-        if n.1 != 0 {
-            made.push(PlacedRow {
-                place,
-                row: Row {
-                    kind,
-                    a: n.0,
-                    b: n.1,
-                    c: n.2,
-                },
-            })?;
+    for (place, &(a, b, c)) in (from..).zip(numbers) {
+        if b != 0 {
+            let row = Row { kind, a, b, c };
+            made.push(PlacedRow { place, row })?;
         }
-        place = place.wrapping_add(1);
     }
     Ok(made)
 }
@@ -78,12 +70,11 @@ fn tried(
         decls: decls.as_slice(),
         attrs: attrs.as_slice(),
     };
-    Ok(
-        match try_element(element, lent, understood, inside, false, scope) {
-            Ok(()) => FINE,
-            Err(refusal) => (refusal.number(), refusal.place()),
-        },
-    )
+    let spot = if inside { Spot::Inside } else { Spot::Outside };
+    Ok(match try_element(element, lent, understood, spot, scope) {
+        Ok(()) => FINE,
+        Err(refusal) => (refusal.number(), refusal.place()),
+    })
 }
 
 // An element of no special kind.
@@ -110,9 +101,7 @@ fn prefixes(heap: Global, count: u32) -> Result<Vec<(u32, u32, u32)>, AllocError
 #[test]
 fn bindings_at_their_limit(rt: HostRuntime) -> Result<(), Fail> {
     let bytes = texts(rt.alloc())?;
-    let Ok(file) = File::check(bytes.as_slice()) else {
-        return Err(Fail::new("refused"));
-    };
+    let file = File::check(bytes.as_slice())?;
     let table = [
         ([32, 32, 32, 32], 0, FINE),
         ([32, 32, 32, 32], 1, (13, START)),
@@ -139,9 +128,7 @@ fn bindings_at_their_limit(rt: HostRuntime) -> Result<(), Fail> {
 #[test]
 fn thirty_two_declarations(rt: HostRuntime) -> Result<(), Fail> {
     let bytes = texts(rt.alloc())?;
-    let Ok(file) = File::check(bytes.as_slice()) else {
-        return Err(Fail::new("refused"));
-    };
+    let file = File::check(bytes.as_slice())?;
     let decls = prefixes(rt.alloc(), 32)?;
     for (prefix, expected) in [
         (PREFIXES, FINE),
@@ -167,9 +154,7 @@ fn thirty_two_declarations(rt: HostRuntime) -> Result<(), Fail> {
 #[test]
 fn items_at_their_limit(rt: HostRuntime) -> Result<(), Fail> {
     let bytes = texts(rt.alloc())?;
-    let Ok(file) = File::check(bytes.as_slice()) else {
-        return Err(Fail::new("refused"));
-    };
+    let file = File::check(bytes.as_slice())?;
     let table = [
         ((0, 0), (P_128, 0), FINE),
         ((0, 0), (P_129, 0), (13, ATTRS)),
@@ -213,9 +198,7 @@ fn listed(values: (u32, u32)) -> [(u32, u32, u32); 2] {
 #[test]
 fn items_and_blanks(rt: HostRuntime) -> Result<(), Fail> {
     let bytes = texts(rt.alloc())?;
-    let Ok(file) = File::check(bytes.as_slice()) else {
-        return Err(Fail::new("refused"));
-    };
+    let file = File::check(bytes.as_slice())?;
     let plain = (URN_B, W);
     let choice = (MC, CHOICE);
     let table = [
@@ -319,9 +302,7 @@ fn items_and_blanks(rt: HostRuntime) -> Result<(), Fail> {
 #[test]
 fn nearest_declaration(rt: HostRuntime) -> Result<(), Fail> {
     let bytes = texts(rt.alloc())?;
-    let Ok(file) = File::check(bytes.as_slice()) else {
-        return Err(Fail::new("refused"));
-    };
+    let file = File::check(bytes.as_slice())?;
     let table = [
         ((MC, 0), URN_A, (P, 0), FINE, (16, ATTRS)),
         ((URN_A, 0), MC, (P, 0), (16, ATTRS), FINE),
@@ -349,9 +330,7 @@ fn nearest_declaration(rt: HostRuntime) -> Result<(), Fail> {
 #[test]
 fn unwrapped(rt: HostRuntime) -> Result<(), Fail> {
     let bytes = texts(rt.alloc())?;
-    let Ok(file) = File::check(bytes.as_slice()) else {
-        return Err(Fail::new("refused"));
-    };
+    let file = File::check(bytes.as_slice())?;
     let attrs = [
         (MC, IGNORABLE, P),
         (MC, PROCESS_CONTENT, P_W),
