@@ -71,7 +71,12 @@ module _ (t : Taken) where
 
       go : (o : Option Refusal) → first (faults_of t.knows t.extensions x past) ≡ o → PutsEnd (all_answer m kept) (after_all m kept) m kept
           → OneEnds (put_unless o m kept) m x past
-      go o h y = grind arith
+      go (Some e) q h =
+          let n = faults_are_numbered t.knows t.extensions x past e (first_in e _ q) in
+          let s : Spoils e = (n.0, omega (arith, n.1)) in
+          inr (e, refl, refl, inl s, λ f. s)
+      go None q (inl h) = inl (h.0, h.1, first-none _ q)
+      go None q (inr h) = inr (h.0, h.1, h.2, either h.0 h.3, λ f. room h.0 (h.4 f))
 
   -- All tokens are put, and have no refusal of their own; or one is refused.
   abbrev pub TokensEnd : Put → Model → List Token → List Token → Type 0

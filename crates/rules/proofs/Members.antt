@@ -18,8 +18,7 @@ right_nil (x ∷ xs) ys e = absurd (nil≢cons (sym e))
 
 pub no_fault : (b : Bool) (r : Refusal) → fault b r ≡ [] → b ≡ false
 unfolding fault
-no_fault true r e = absurd (nil≢cons (sym e))
-no_fault false r e = refl
+no_fault b r h = grind arith
 
 pub sub_refl : {A : Type 0} (xs : List A) → Sub A xs xs
 sub_refl [] = none
@@ -90,8 +89,7 @@ every_append {xs = xs} {ys = ys} h k = record { at = λ x i. elim (in_append x x
 
 pub every_fault : {P : Refusal → Type 0} (b : Bool) (r : Refusal) → P r → Every P (fault b r)
 unfolding fault
-every_fault {P} true r h = record { at = λ x i. elim i [ inl e ↦ subst P (sym e) h | inr j ↦ absurd j ] }
-every_fault false r h = every_none
+every_fault b r h = grind arith
 
 pub when-one : (b : Bool) (x : PlacedRow) → Sub PlacedRow (when b x) (x ∷ [])
 unfolding when
@@ -111,8 +109,7 @@ in_when x y b h = grind arith
 
 pub when_in : (b : Bool) (x y : PlacedRow) → x ≡ y → b ≡ true → In x (when b y)
 unfolding when
-when_in true x y e h = inl e
-when_in false x y e h = absurd (false≢true h)
+when_in b x y h z = grind arith
 
 -- Numbers that rise.
 

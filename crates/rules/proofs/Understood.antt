@@ -28,13 +28,11 @@ use Rattle.rules.proofs.Whole.{whole}
 
 no_mark : (b : Bool) (p : ℕ) (c : Cause) → mark b p c ≡ [] → b ≡ false
 unfolding mark
-no_mark true p c e = absurd (nil≢cons (sym e))
-no_mark false p c e = refl
+no_mark b p c h = grind arith
 
 is_nil : (b : Bytes) → is_empty b ≡ true → b ≡ []
 unfolding is_empty
-is_nil [] e = refl
-is_nil (x ∷ b) e = absurd (false≢true e)
+is_nil b h = grind arith
 
 second : (a b : Bool) → a ≡ true → (a && b) ≡ false → b ≡ false
 second a b e f = grind arith
@@ -68,8 +66,7 @@ module _ (K : Knows) (ext : List Name) (texts : List Bytes) where
   Seen x toks = ((at : List Element) × Stands x at toks × Good x at) ⊎ Nameless x
 
   seen-on : (x : PlacedRow) (t : Token) (past : List Token) → Seen x past → Seen x (t ∷ past)
-  seen-on x t past (inl h) = inl (h.0, stands_on x h.0 t past h.1, h.2)
-  seen-on x t past (inr h) = inr h
+  seen-on x t past h = grind arith
 
   decl_one : (b : Bool) (x : PlacedRow) (d : Decl) (rest : List PlacedRow) → IsKind Declaration d.placed
       → (In x rest → IsKind Declaration x) → In x (when b d.placed ++ rest) → IsKind Declaration x
