@@ -1,3 +1,3 @@
 pub mod Before
-pub mod Lists
-pub mod Rest
+pub mod Behind
+pub mod Entered

@@ -6,6 +6,7 @@ ghost use Rattle.rules.specs.Steps.{is_unwrapped};
 ghost use Rattle.rules.specs.Faults.{first, element_faults};
 ghost use Rattle.trial.specs.Answers.{refusal_of};
 ghost use Rattle.judge.specs.Tags.{tag_of};
+ghost use Rattle.judge.specs.Spots.{is_inside, is_behind};
 ghost use Rattle.enter.specs.Scopes.{scope_of};
 ghost use Rattle.enter.specs.Trials.{list_faults, rest_faults};
 
@@ -15,7 +16,7 @@ use file::texts::Texts;
 use judge::declare::declare;
 use judge::element::Element;
 use judge::lists::{try_ignorable, try_must, try_process};
-use judge::place::{try_attributes, try_choice, try_place, try_start};
+use judge::place::{Spot, try_attributes, try_choice, try_place, try_start};
 use record::refusal::Refusal;
 use scope::find::{is_marked, is_paired};
 use text::names::is_mc;
@@ -51,19 +52,11 @@ fn is_unwrapped(
     ensures { (knows : Knows) → understood ≡ is_understood knows (tag_of (texts lent.entry) element.entry).namespace → result ≡ is_unwrapped knows (scope_of (texts lent.entry) scope.now) (tag_of (texts lent.entry) element.entry) }
 {
     let namespace = lent.at(element.start.row.a);
-    if understood {
-        return false;
-    }
-    if is_mc(namespace) {
-        return false;
-    }
-    if namespace.is_empty() {
-        return false;
-    }
-    if !is_marked(namespace, lent, scope.marks()) {
-        return false;
-    }
-    is_paired(namespace, lent.at(element.start.row.b), lent, scope.pairs())
+    !understood
+        && !is_mc(namespace)
+        && !namespace.is_empty()
+        && is_marked(namespace, lent, scope.marks())
+        && is_paired(namespace, lent.at(element.start.row.b), lent, scope.pairs())
 }
 
 // The place of an element and its attributes, by what is in scope at it.
@@ -71,32 +64,29 @@ fn try_rest(
     element: Element<'_, '_>,
     lent: Texts<'_>,
     unwrapped: bool,
-    inside: bool,
-    behind: bool,
+    spot: Spot,
     scope: &InScope,
 ) -> Result<(), Refusal>
-    ensures { refusal_of result ≡ first (rest_faults unwrapped (scope_of (texts lent.entry) scope.now) inside behind (tag_of (texts lent.entry) element.entry)) }
+    ensures { refusal_of result ≡ first (rest_faults unwrapped (scope_of (texts lent.entry) scope.now) (is_inside spot) (is_behind spot) (tag_of (texts lent.entry) element.entry)) }
 {
-    try_place(element, lent, inside, behind, scope.marks())?;
+    try_place(element, lent, spot, scope.marks())?;
     try_attributes(element, lent, scope.marks())?;
     try_choice(element, lent, scope.bindings())?;
     try_xml(element.attrs, lent, unwrapped)
 }
 
-// An element outside extension elements, whose namespace is `understood` or not; it stands `inside` AlternateContent, `behind` a
-// Fallback there. Where it passes, its entries are in scope.
+// An element outside extension elements, whose namespace is `understood` or not. Where it passes, its entries are in scope.
 pub fn try_element(
     element: Element<'_, '_>,
     lent: Texts<'_>,
     understood: bool,
-    inside: bool,
-    behind: bool,
+    spot: Spot,
     scope: &mut InScope,
 ) -> Result<(), Refusal>
-    ensures answer { (knows : Knows) → understood ≡ is_understood knows (tag_of (texts lent.entry) element.entry).namespace → refusal_of result ≡ first (element_faults knows (scope_of (texts lent.entry) scope.old) inside behind (tag_of (texts lent.entry) element.entry)) }
+    ensures answer { (knows : Knows) → understood ≡ is_understood knows (tag_of (texts lent.entry) element.entry).namespace → refusal_of result ≡ first (element_faults knows (scope_of (texts lent.entry) scope.old) (is_inside spot) (is_behind spot) (tag_of (texts lent.entry) element.entry)) }
     ensures entered { OnOk result (scope_of (texts lent.entry) scope.new ≡ scope_with (tag_of (texts lent.entry) element.entry) (scope_of (texts lent.entry) scope.old)) }
 {
     enter(element, lent, scope)?;
     let unwrapped = is_unwrapped(element, lent, understood, scope);
-    try_rest(element, lent, unwrapped, inside, behind, scope)
+    try_rest(element, lent, unwrapped, spot, scope)
 }

@@ -1,4 +1,4 @@
-ghost use Rattle.std.specs.Prelude.{◌≡◌, ◌||◌, IfOk, if◌then◌else◌};
+ghost use Rattle.std.specs.Prelude.{◌≡◌, ◌&&◌, ◌||◌, IfOk, if◌then◌else◌};
 ghost use Rattle.file.specs.Texts.{texts};
 ghost use Rattle.knowledge.specs.Understood.{Knows};
 ghost use Rattle.rules.specs.Scope.{is_listed, scope_with};
@@ -6,6 +6,7 @@ ghost use Rattle.rules.specs.Faults.{first, tag_faults};
 ghost use Rattle.rules.specs.States.{is_extension_state, is_alternate_state};
 ghost use Rattle.trial.specs.Answers.{refusal_of};
 ghost use Rattle.judge.specs.Tags.{tag_of};
+ghost use Rattle.judge.specs.Spots.{is_inside, is_behind};
 ghost use Rattle.enter.specs.Scopes.{scope_of};
 ghost use Rattle.understood.specs.Answers.{Knowing};
 ghost use Rattle.frames.specs.Lists.{extension_list};
@@ -18,12 +19,27 @@ use enter::element::try_element;
 use enter::in_scope::InScope;
 use file::texts::Texts;
 use judge::element::Element;
-use judge::place::try_place;
+use judge::place::{Spot, try_place};
 use record::refusal::Refusal;
 use understood::Understood;
 
+// Where an element stands that stands directly in the one around it.
+fn spot_in(around: Frame) -> Spot
+    ensures inside { is_inside result ≡ is_alternate_state around.state }
+    ensures behind { is_behind result ≡ is_alternate_state around.state && around.fallback_seen }
+{
+    if !is_alternate(around.state) {
+        Spot::Outside
+    } else if around.fallback_seen {
+        Spot::BehindFallback
+    } else {
+        Spot::Inside
+    }
+}
+
 // The trial of an element in the one around it: inside an extension element nothing is tried, of an extension element only its
 // place. Answers whether it is one or inside one; otherwise its entries are in scope.
+#[tactic(auto, using(judge::proofs::Spots::behind_inside, enter::proofs::Behind::tried_inside), unfolding(rules::specs::Faults::tag_faults))]
 pub(crate) fn try_tag(
     element: Element<'_, '_>,
     lent: Texts<'_>,
@@ -39,19 +55,12 @@ pub(crate) fn try_tag(
     if is_extension(around.state) {
         return Ok(true);
     }
-    let inside = is_alternate(around.state);
+    let spot = spot_in(around);
     if is_listed(element, lent, extensions) {
-        try_place(element, lent, inside, around.fallback_seen, scope.marks())?;
+        try_place(element, lent, spot, scope.marks())?;
         return Ok(true);
     }
     let understood = known.has(element.start.row.a);
-    try_element(
-        element,
-        lent,
-        understood,
-        inside,
-        around.fallback_seen,
-        scope,
-    )?;
+    try_element(element, lent, understood, spot, scope)?;
     Ok(false)
 }

@@ -1,1 +1,1 @@
-pub mod Bounds
+pub mod Spots

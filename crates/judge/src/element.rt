@@ -8,6 +8,7 @@ use record::row::PlacedRow;
 use text::names::{McElement, is_mc, mc_element};
 
 // An element that waits to be judged: its start, its declarations and its attributes.
+// Kept: the texts stand beside it, since an element is made where its rows wait, and no texts are lent there.
 #[derive(Clone, Copy)]
 pub struct Element<'d, 'a> {
     pub start: PlacedRow,
@@ -29,22 +30,12 @@ impl<'d, 'a> Element<'d, 'a> {
     pub fn is_choice(self, lent: Texts<'_>) -> bool
         ensures { result ≡ is_choice (tag_of (texts lent.entry) self.entry) }
     {
-        match self.mc(lent) {
-            Some(McElement::Choice) => true,
-            Some(McElement::Fallback) => false,
-            Some(McElement::AlternateContent) => false,
-            None => false,
-        }
+        self.mc(lent) == Some(McElement::Choice)
     }
 
     pub fn is_branch(self, lent: Texts<'_>) -> bool
         ensures { result ≡ is_branch (tag_of (texts lent.entry) self.entry) }
     {
-        match self.mc(lent) {
-            Some(McElement::Choice) => true,
-            Some(McElement::Fallback) => true,
-            Some(McElement::AlternateContent) => false,
-            None => false,
-        }
+        matches!(self.mc(lent), Some(McElement::Choice | McElement::Fallback))
     }
 }

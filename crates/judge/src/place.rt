@@ -6,6 +6,7 @@ ghost use Rattle.rules.specs.Faults.{first, start_name_faults, place_faults, att
 ghost use Rattle.scope.specs.Entries.{bindings_of, ignorables_of};
 ghost use Rattle.trial.specs.Answers.{refusal_of};
 ghost use Rattle.judge.specs.Tags.{tag_of};
+ghost use Rattle.judge.specs.Spots.{is_inside, is_behind};
 
 use crate::element::Element;
 use crate::lists::try_requires;
@@ -20,10 +21,7 @@ use text::names::{is_mc, mc_element};
 pub fn try_start(element: Element<'_, '_>, lent: Texts<'_>) -> Result<(), Refusal>
     ensures { refusal_of result ≡ first (start_name_faults (tag_of (texts lent.entry) element.entry)) }
 {
-    if !is_mc(lent.at(element.start.row.a)) {
-        return Ok(());
-    }
-    if mc_element(lent.at(element.start.row.b)).is_none() {
+    if is_mc(lent.at(element.start.row.a)) && mc_element(lent.at(element.start.row.b)).is_none() {
         return Err(Refusal::UnknownName {
             place: element.start.place,
         });
@@ -31,45 +29,41 @@ pub fn try_start(element: Element<'_, '_>, lent: Texts<'_>) -> Result<(), Refusa
     Ok(())
 }
 
-// Where the element stands: `inside` AlternateContent, `behind` a Fallback there.
+// Where an element stands.
+#[derive(Clone, Copy)]
+pub enum Spot {
+    // Not directly in an AlternateContent.
+    Outside,
+    // Directly in one, and behind no Fallback there.
+    Inside,
+    // Directly in one, behind a Fallback.
+    BehindFallback,
+}
+
+// A branch stands directly in AlternateContent and behind no Fallback there; another child of it is in an ignorable namespace.
 pub fn try_place(
     element: Element<'_, '_>,
     lent: Texts<'_>,
-    inside: bool,
-    behind: bool,
+    spot: Spot,
     marks: &[Mark],
 ) -> Result<(), Refusal>
-    ensures { refusal_of result ≡ first (place_faults inside behind (is_ignorable_in (ignorables_of (texts lent.entry) marks.now) (tag_of (texts lent.entry) element.entry).namespace) (tag_of (texts lent.entry) element.entry)) }
+    ensures { refusal_of result ≡ first (place_faults (is_inside spot) (is_behind spot) (is_ignorable_in (ignorables_of (texts lent.entry) marks.now) (tag_of (texts lent.entry) element.entry).namespace) (tag_of (texts lent.entry) element.entry)) }
 {
-    let misplaced = Err(Refusal::Misplaced {
-        place: element.start.place,
-    });
-    if element.is_branch(lent) {
-        if !inside {
-            return misplaced;
-        }
-        if behind {
-            return misplaced;
-        }
-        return Ok(());
+    let namespace = lent.at(element.start.row.a);
+    match (spot, element.is_branch(lent)) {
+        (Spot::Outside, false) | (Spot::Inside, true) => Ok(()),
+        (Spot::Inside | Spot::BehindFallback, false) if is_marked(namespace, lent, marks) => Ok(()),
+        _ => Err(Refusal::Misplaced {
+            place: element.start.place,
+        }),
     }
-    if !inside {
-        return Ok(());
-    }
-    if is_marked(lent.at(element.start.row.a), lent, marks) {
-        return Ok(());
-    }
-    misplaced
 }
 
 // A Choice without Requires.
 fn lacks_requires(element: Element<'_, '_>, lent: Texts<'_>) -> bool
     ensures { result ≡ is_choice (tag_of (texts lent.entry) element.entry) && not (is_some (requires_of (tag_of (texts lent.entry) element.entry))) }
 {
-    if !element.is_choice(lent) {
-        return false;
-    }
-    requires_attr(element.attrs, lent).is_none()
+    element.is_choice(lent) && requires_attr(element.attrs, lent).is_none()
 }
 
 // The attributes of an element of markup compatibility.

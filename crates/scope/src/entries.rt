@@ -105,9 +105,6 @@ impl<'n, 'l, 'a> Keyed<NamedPair<'n, 'l, 'a>> for Pair {
     ghost fits = { λ p key. bytes_eq (space_of (texts key.lent) p.space) key.namespace.now && bytes_eq (local_of (texts key.lent) p) key.local.now };
 
     fn has(&self, key: &NamedPair<'n, 'l, 'a>) -> bool {
-        if same(self.space.bytes(key.lent), key.namespace) {
-            return same(self.local(key.lent), key.local);
-        }
-        false
+        same(self.space.bytes(key.lent), key.namespace) && same(self.local(key.lent), key.local)
     }
 }

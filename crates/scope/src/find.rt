@@ -16,9 +16,7 @@ pub fn space_of(prefix: &[u8], lent: Texts<'_>, bindings: &[Bound]) -> Option<Sp
     if is_xml_prefix(prefix) {
         return Some(Space::Xml);
     }
-    let Some(binding) = newest(bindings, &Named { name: prefix, lent }) else {
-        return None;
-    };
+    let binding = newest(bindings, &Named { name: prefix, lent })?;
     Some(Space::Text(binding.space))
 }
 
@@ -26,27 +24,21 @@ pub fn space_of(prefix: &[u8], lent: Texts<'_>, bindings: &[Bound]) -> Option<Sp
 pub fn is_marked(namespace: &[u8], lent: Texts<'_>, marks: &[Mark]) -> bool
     ensures { result ≡ is_ignorable_in (ignorables_of (texts lent.entry) marks.now) namespace.now }
 {
-    newest(
-        marks,
-        &Named {
-            name: namespace,
-            lent,
-        },
-    )
-    .is_some()
+    let key = Named {
+        name: namespace,
+        lent,
+    };
+    newest(marks, &key).is_some()
 }
 
 // Whether ProcessContent names an element.
 pub fn is_paired(namespace: &[u8], local: &[u8], lent: Texts<'_>, pairs: &[Pair]) -> bool
     ensures { result ≡ is_processed_in (processed_of (texts lent.entry) pairs.now) namespace.now local.now }
 {
-    newest(
-        pairs,
-        &NamedPair {
-            namespace,
-            local,
-            lent,
-        },
-    )
-    .is_some()
+    let key = NamedPair {
+        namespace,
+        local,
+        lent,
+    };
+    newest(pairs, &key).is_some()
 }

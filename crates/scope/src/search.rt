@@ -13,11 +13,5 @@ pub trait Keyed<K>: Copy {
 pub fn newest<E: Keyed<K>, K>(entries: &[E], key: &K) -> Option<E>
     ensures { result ≡ first_with (λ e. E.Keyed.fits e key.now) (reverse entries.now) }
 {
-    for i in (0..entries.len()).rev() {
-        let e = entries[i];
-        if e.has(key) {
-            return Some(e);
-        }
-    }
-    None
+    entries.iter().rev().copied().find(|e| e.has(key))
 }

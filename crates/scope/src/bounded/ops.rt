@@ -1,4 +1,4 @@
-ghost use Rattle.std.specs.Prelude.{◌≡◌, [], ◌∷◌, ◌++◌, length, take, if◌then◌else◌, nat_lt};
+ghost use Rattle.std.specs.Prelude.{◌≡◌, [], ◌∷◌, ◌++◌, length, take, if◌then◌else◌, nat_le, nat_lt};
 ghost use Rattle.scope.specs.Bounded.{held};
 
 use super::Bounded;
@@ -24,8 +24,13 @@ impl<T: Copy, const N: usize> Bounded<T, N> {
     pub fn entries(&self) -> &[T]
         ensures { result.now ≡ held self.now }
     {
-        let all = &self.slots[..];
-        &all[0..self.len]
+        &self.slots[..self.len]
+    }
+
+    pub fn is_full(&self) -> bool
+        ensures { result ≡ nat_le N (length (held self.now)) }
+    {
+        self.len >= N
     }
 
     // Whether there was room for one more.
@@ -33,7 +38,7 @@ impl<T: Copy, const N: usize> Bounded<T, N> {
         ensures room { result ≡ nat_lt (length (held self.old)) N }
         ensures held { held self.new ≡ (if result then held self.old ++ entry ∷ [] else held self.old) }
     {
-        if self.len >= N {
+        if self.is_full() {
             return false;
         }
         self.slots[self.len] = entry;
@@ -45,8 +50,6 @@ impl<T: Copy, const N: usize> Bounded<T, N> {
     pub fn cut(&mut self, n: usize)
         ensures { held self.new ≡ take n (held self.old) }
     {
-        if n < self.len {
-            self.len = n;
-        }
+        self.len = self.len.min(n);
     }
 }

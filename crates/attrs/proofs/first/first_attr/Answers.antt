@@ -1,20 +1,18 @@
-use Rattle.std.proofs.Common.{arith, rules}
-use Rattle.file.specs.Texts.{texts}
-use Rattle.rules.specs.Elements.{attr_of}
-use Rattle.attrs.proofs.Turns.{blank, first_turn, first_over}
+use Rattle.std.proofs.Common.{sym, ap, ◌∙◌, rules}
+use Rattle.std.specs.Option.{option_map}
+use Rattle.std.proofs.lemmas.Iterator.{YieldsList-from_slice}
+use Rattle.std.proofs.lemmas.Iterator.Adapters.{option_map_id}
+use Rattle.std.proofs.lemmas.Iterator.Consumers.{YieldsList-from_copied}
+use Rattle.std.proofs.lemmas.Iterator.Search.{find_from_yields_List}
+use Rattle.scope.proofs.Finds.{found_mapped}
 use Rattle.attrs.proofs.first.first_attr.Goals as goal
-
-pub returns-then-test : goal.returns-then-test
-returns-then-test g c =
-    let t = first_turn (attr_of (texts c.args.lent)) (g.T.AttrTest.passes c.args.test.now (texts c.args.lent)) c.args.attrs.now c.loop-x.x-index blank (omega arith) in
-    search rules
-
-pub loop-x-preserved : goal.loop-x-preserved
-loop-x-preserved g c =
-    let t = first_turn (attr_of (texts c.args.lent)) (g.T.AttrTest.passes c.args.test.now (texts c.args.lent)) c.args.attrs.now c.loop-x.x-index blank (omega arith) in
-    search rules
 
 pub returns : goal.returns
 returns g c =
-    let t = first_over (attr_of (texts c.args.lent)) (g.T.AttrTest.passes c.args.test.now (texts c.args.lent)) c.args.attrs.now c.loop-x.x-index (omega arith) in
-    search rules
+    record {
+      by_meaning = λ meaning test same.
+          ap (option_map meaning)
+          (sym (option_map_id c.find.result)
+          ∙ find_from_yields_List (λ x. test (meaning x)) _ _ _ c.find.ensures.ran (YieldsList-from_copied (YieldsList-from_slice c.args.attrs.now cc)) (λ x b q k. search (rules, same)))
+          ∙ found_mapped meaning test c.args.attrs.now;
+    }

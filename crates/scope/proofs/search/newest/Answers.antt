@@ -1,22 +1,12 @@
-use Rattle.std.proofs.Common.{arith, rules}
-use Rattle.std.proofs.lemmas.List.{take_all}
-use Rattle.scope.proofs.Finds.{newest_turn, newest_none}
+use Rattle.std.proofs.Common.{reverse, sym, ◌∙◌, rules}
+use Rattle.std.proofs.lemmas.Iterator.Adapters.{YieldsList-from_rev_slice, option_map_id}
+use Rattle.std.proofs.lemmas.Iterator.Consumers.{YieldsList-from_copied}
+use Rattle.std.proofs.lemmas.Iterator.Search.{find_from_yields_List}
+use Rattle.scope.proofs.Finds.{found_with}
 use Rattle.scope.proofs.search.newest.Goals as goal
-
-pub loop-i-init : goal.loop-i-init
-loop-i-init g c = search (rules, take_all)
-
-pub returns-then-has : goal.returns-then-has
-returns-then-has g c =
-    let s = newest_turn (λ e. g.E.Keyed.fits e c.args.key.now) c.args.entries.now c.loop-i.i _ (omega arith) (omega arith) c.index-entries-i.is in
-    search rules
-
-pub loop-i-preserved : goal.loop-i-preserved
-loop-i-preserved g c =
-    let s = newest_turn (λ e. g.E.Keyed.fits e c.args.key.now) c.args.entries.now c.loop-i.i _ (omega arith) (omega arith) c.index-entries-i.is in
-    search rules
 
 pub returns : goal.returns
 returns g c =
-    let s = newest_none (λ e. g.E.Keyed.fits e c.args.key.now) c.args.entries.now c.loop-i.i (omega arith) in
-    search rules
+    sym (option_map_id c.find.result)
+    ∙ find_from_yields_List (λ e. g.E.Keyed.fits e c.args.key.now) _ _ _ c.find.ensures.ran (YieldsList-from_copied (YieldsList-from_rev_slice c.args.entries.now cc)) (λ x b q k. search rules)
+    ∙ found_with (λ e. g.E.Keyed.fits e c.args.key.now) (reverse c.args.entries.now)
