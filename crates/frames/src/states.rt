@@ -1,21 +1,7 @@
 ghost use Rattle.std.specs.Prelude.{◌≡◌, ◌&&◌};
-ghost use Rattle.rules.specs.States.{is_extension_state, is_alternate_state, heeds_must, entered_by};
+ghost use Rattle.rules.specs.States.{heeds_must, entered_by};
 
 use rules::state::State;
-
-#[tactic(auto, unfolding(rules::specs::States::is_extension_state))]
-pub(crate) fn is_extension(state: State) -> bool
-    ensures { result ≡ is_extension_state state }
-{
-    state == State::Extension
-}
-
-#[tactic(auto, unfolding(rules::specs::States::is_alternate_state))]
-pub fn is_alternate(state: State) -> bool
-    ensures { result ≡ is_alternate_state state }
-{
-    state == State::Alternate
-}
 
 // Whether MustUnderstand on an element of this state is heeded.
 #[tactic(auto, unfolding(rules::specs::States::heeds_must))]

@@ -13,7 +13,6 @@ ghost use Rattle.frames.specs.Lists.{extension_list};
 
 use crate::frame::Frame;
 use crate::names::is_listed;
-use crate::states::{is_alternate, is_extension};
 use card::extensions::Extensions;
 use enter::element::try_element;
 use enter::in_scope::InScope;
@@ -21,14 +20,16 @@ use file::texts::Texts;
 use judge::element::Element;
 use judge::place::{Spot, try_place};
 use record::refusal::Refusal;
+use rules::state::State;
 use understood::Understood;
 
 // Where an element stands that stands directly in the one around it.
+#[tactic(auto, unfolding(rules::specs::States::is_alternate_state))]
 fn spot_in(around: Frame) -> Spot
     ensures inside { is_inside result ≡ is_alternate_state around.state }
     ensures behind { is_behind result ≡ is_alternate_state around.state && around.fallback_seen }
 {
-    if !is_alternate(around.state) {
+    if around.state != State::Alternate {
         Spot::Outside
     } else if around.fallback_seen {
         Spot::BehindFallback
@@ -39,7 +40,7 @@ fn spot_in(around: Frame) -> Spot
 
 // The trial of an element in the one around it: inside an extension element nothing is tried, of an extension element only its
 // place. Answers whether it is one or inside one; otherwise its entries are in scope.
-#[tactic(auto, using(judge::proofs::Spots::behind_inside, enter::proofs::Behind::tried_inside), unfolding(rules::specs::Faults::tag_faults))]
+#[tactic(auto, using(judge::proofs::Spots::behind_inside, enter::proofs::Behind::tried_inside), unfolding(rules::specs::Faults::tag_faults, rules::specs::States::is_extension_state))]
 pub(crate) fn try_tag(
     element: Element<'_, '_>,
     lent: Texts<'_>,
@@ -52,7 +53,7 @@ pub(crate) fn try_tag(
     ensures extension { IfOk result (λ x. x ≡ is_listed (extension_list extensions.entry) (tag_of (texts lent.entry) element.entry) || is_extension_state around.state) }
     ensures entered { IfOk result (λ x. scope_of (texts lent.entry) scope.new ≡ (if x then scope_of (texts lent.entry) scope.old else scope_with (tag_of (texts lent.entry) element.entry) (scope_of (texts lent.entry) scope.old))) }
 {
-    if is_extension(around.state) {
+    if around.state == State::Extension {
         return Ok(true);
     }
     let spot = spot_in(around);
