@@ -70,6 +70,8 @@ pub fn requires_attr(attrs: &[PlacedRow], lent: Texts<'_>) -> Option<PlacedRow>
 }
 
 // Attributes in markup compatibility are ones that it has.
+// Kept: this trial and the next two each match on what they found. A helper would take the refusal too as a closure, and its contract
+// would have to say what that answers, which is longer than the matches.
 pub fn try_names(attrs: &[PlacedRow], lent: Texts<'_>) -> Result<(), Refusal>
     ensures { refusal_of result ≡ first (attr_name_faults (map (attr_of (texts lent.entry)) attrs.now)) }
 {

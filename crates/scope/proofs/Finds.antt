@@ -13,7 +13,7 @@ unfolding first_with
 found_with test [] = refl
 found_with test (x ∷ xs) = ap (cond (test x) (Some x)) (found_with test xs)
 
-pub some_mapped : {E X : Type 0} (f : E → X) (o : Option E) → is_some (option_map f o) ≡ is_some o
+some_mapped : {E X : Type 0} (f : E → X) (o : Option E) → is_some (option_map f o) ≡ is_some o
 some_mapped f None = refl
 some_mapped f (Some x) = refl
 
