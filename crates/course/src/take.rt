@@ -26,6 +26,8 @@ use verdict::view::View;
 impl Course {
     // Judges the element that waits, if one does, and puts its kept rows. What it opens is not held yet: the row behind it may
     // still be refused by the sheet, and then nothing has changed.
+    // Kept: texts and extensions as two parameters, here and below. The pair is the reader's `Source`, in the crate above, and a type
+    // of its own here would be its twin.
     fn judge_waiting<S: Sheet>(
         &mut self,
         sheet: &mut S,

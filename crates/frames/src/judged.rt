@@ -26,6 +26,7 @@ use verdict::view::View;
 
 // Judges a start with its declarations and attributes in the element around it: tries it, and says what it opens. Where it passes, its
 // entries are in scope.
+// Kept: what a view holds comes apart here and in `try_tag`, since a view lends what is in scope and a trial adds to it.
 #[tactic(auto, unfolding(rules::specs::States::faults_in, crate::specs::Lists::extension_list))]
 pub fn judge(
     element: Element<'_, '_>,
