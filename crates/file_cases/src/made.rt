@@ -1,6 +1,7 @@
 use record::row::Row;
 use std::alloc::{AllocError, Global};
 
+// Kept: each test crate with files has this line of its own. A crate for it would be public, and owe contracts that only tests need.
 fn number(bytes: &mut Vec<u8>, n: u32) -> Result<(), AllocError> {
     bytes.extend_from_slice(&n.to_le_bytes())
 }

@@ -58,6 +58,7 @@ impl<'a, T: Copy> Roll<'a, T> {
     }
 
     // Adds an item at the end; false, and nothing is changed, where no slot is left.
+    // Kept: a bool, since want of room is all that can be told, and each caller has its own refusal for it.
     pub fn push(&mut self, item: T) -> bool
         ensures answer { result ≡ nat_lt (length (items self.old)) (slot_count self.old) }
         ensures items { items self.new ≡ (if result then items self.old ++ item ∷ [] else items self.old) }

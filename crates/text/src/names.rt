@@ -71,6 +71,7 @@ pub fn is_requires(local: &[u8]) -> bool
 }
 
 // The element of markup compatibility with this local name.
+// Kept: no TryFrom, here and below, since of another name there is nothing to tell, and callers want an Option.
 #[tactic(auto, unfolding(crate::specs::Names::element_named))]
 pub fn mc_element(local: &[u8]) -> Option<McElement>
     ensures { result ≡ element_named local.now }

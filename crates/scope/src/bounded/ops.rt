@@ -34,6 +34,7 @@ impl<T: Copy, const N: usize> Bounded<T, N> {
     }
 
     // Whether there was room for one more.
+    // Kept: a bool, since want of room is all that can be told, and each caller has its own refusal for it.
     pub fn add(&mut self, entry: T) -> bool
         ensures room { result ≡ nat_lt (length (held self.old)) N }
         ensures held { held self.new ≡ (if result then held self.old ++ entry ∷ [] else held self.old) }
