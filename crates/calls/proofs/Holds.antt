@@ -1,12 +1,12 @@
 -- In a run reader and sheet stand for what the book says.
-use Rattle.std.proofs.Common.{◌≡◌, ℕ, ◌≤◌, Bool, true, false, cond, not, eqb, ltb, ◌⊎◌, List, [], ◌∷◌, ◌++◌, length, Some, None, Ok, Err, Option, Result, sym, refl, ap, subst, ap₂, inl, inr, arith}
+use Rattle.std.proofs.Common.{◌≡◌, ℕ, ◌≤◌, Bool, cond, not, eqb, ltb, ◌⊎◌, List, [], ◌∷◌, ◌++◌, length, Some, None, Ok, Err, Option, Result, sym, refl, ap, subst, ap₂, inl, inr, arith}
 use Rattle.std.proofs.lemmas.Bool.{eq-eqb}
 use Rattle.text.specs.Bytes.{Bytes}
 use Rattle.record.specs.declared.row.Row.{Row}
 use Rattle.record.specs.declared.refusal.Refusal.{Refusal}
-use Rattle.record.specs.declared.refusal.Refusal.TheVariants.{TooShort, OutsideLimits, WrongLength, MisplacedText, RepeatedText}
+use Rattle.record.specs.declared.refusal.Refusal.TheVariants.{TooShort, OutsideLimits, WrongLength}
 use Rattle.record.specs.Refusals.{numbered}
-use Rattle.file.specs.Form.{Contents, text_count, row_count, byte_count, within_limits, size, pair_table, row_table, rows_of, text_bytes, texts_of, pair_count, first_from, misplaced, repeated, refuse, refuse_at, with_rows as read_rows, read_texts, opened}
+use Rattle.file.specs.Form.{Contents, text_count, row_count, byte_count, within_limits, size, pair_table, row_table, rows_of, text_bytes, refuse, refuse_at, with_rows as read_rows, read_texts, opened}
 use Rattle.knowledge.specs.Understood.{Knows}
 use Rattle.card.specs.Cards.{Name}
 use Rattle.sheet.specs.Sheets.{Model, model, after_drop}

@@ -1,6 +1,5 @@
 -- The two notions of pairing; sealed rows pair.
-use Rattle.std.proofs.Common.{◌≡◌, ℕ, zero, suc, ◌+◌, ◌-◌, Bool, true, false, cond, not, ◌||◌, eqb, ltb, List, [], ◌∷◌, Some, None, fold, refl, ap, ◌∙◌, inl, inr, arith}
-use mathlib.Core.Bool.{false≢true}
+use Rattle.std.proofs.Common.{◌≡◌, ℕ, ◌+◌, ◌-◌, Bool, true, cond, not, ◌||◌, eqb, ltb, List, [], ◌∷◌, Some, None, fold, refl, ap, ◌∙◌, inl, inr, arith}
 use Rattle.std.proofs.lemmas.Bool.{and_parts, eqb-true}
 use Rattle.record.specs.declared.row.PlacedRow.{PlacedRow}
 use Rattle.record.specs.Rows.{kind_of}
@@ -10,7 +9,7 @@ use Rattle.rules.proofs.Pairs.{open_append, kept_rows_pair}
 use Rattle.calls.specs.Calls.{Call, step}
 use Rattle.calls.specs.Book.{New, after, sealed_by, events, kept_in}
 use Rattle.calls.specs.Promises.{PairingIsOne, SealedRowsPair}
-use Rattle.calls.proofs.Fits.{kind_by, not-both, open_pairs}
+use Rattle.calls.proofs.Fits.{kind_by, open_pairs}
 use Rattle.calls.proofs.Seals.{StepSeals, step_seals}
 
 kind_opens : (k n : ℕ) (a b c d e : Bool) → eqb k 1 ≡ a → eqb k 2 ≡ b → eqb k 3 ≡ c → eqb k 4 ≡ d → eqb k 5 ≡ e

@@ -1,11 +1,10 @@
 -- The frames of the open elements follow step by step, and what a token keeps follows from them.
-use Rattle.std.proofs.Common.{◌≡◌, ℕ, zero, suc, Bool, true, false, cond, not, ◌&&◌, ◌||◌, List, [], ◌∷◌, drop, is_some, Some, None, Option, sym, refl, ap, ◌∙◌, ap₂, arith}
+use Rattle.std.proofs.Common.{◌≡◌, ℕ, zero, suc, Bool, true, false, cond, not, ◌&&◌, ◌||◌, List, [], ◌∷◌, drop, is_some, Option, sym, refl, ap, ◌∙◌, ap₂, arith}
 use mathlib.Core.List.{tail}
 use Rattle.std.proofs.Math.Seq.{drop-nil}
 use Rattle.text.specs.Bytes.{Bytes}
 use Rattle.text.specs.Names.{in_mc, element_named}
 use Rattle.text.specs.declared.names.McElement.{McElement}
-use Rattle.text.specs.declared.names.McElement.TheVariants.{AlternateContent, Choice, Fallback}
 use Rattle.knowledge.specs.Understood.{Knows}
 use Rattle.card.specs.Cards.{Name}
 use Rattle.rules.specs.Elements.{Tag, Token, tag, text, end, children, Element, element, around}

@@ -1,5 +1,5 @@
 -- Members of lists, lists with some entries left out, and lists of refusals that are empty.
-use Rattle.std.proofs.Common.{◌≡◌, ℕ, suc, ◌<◌, ◌≤◌, Bool, true, false, ◌⊎◌, List, [], ◌∷◌, ◌++◌, map, sym, refl, ap, subst, inl, inr, arith}
+use Rattle.std.proofs.Common.{◌≡◌, ℕ, suc, ◌<◌, ◌≤◌, Bool, true, false, ◌⊎◌, List, [], ◌∷◌, ◌++◌, map, sym, refl, ap, inl, inr, arith}
 use mathlib.Core.Bool.{false≢true}
 use mathlib.Core.List.{nil≢cons}
 use Rattle.record.specs.declared.row.PlacedRow.{PlacedRow}

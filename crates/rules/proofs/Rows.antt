@@ -40,8 +40,7 @@ push_decl d t e =
 
 no_attrs : (xs : List Attr) → has_no_attrs xs ≡ true → xs ≡ []
 unfolding has_no_attrs
-no_attrs [] e = refl
-no_attrs (x ∷ xs) e = absurd (false≢true e)
+no_attrs xs h = grind arith
 
 grown : (k : Option Kind) (texts : List Bytes) (x : PlacedRow) (past : List Token) → is_in_order k past ≡ true
     → all_rows (add k texts x past) ≡ all_rows past ++ (x ∷ [])

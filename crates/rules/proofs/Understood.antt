@@ -1,7 +1,6 @@
 -- A record without refusal or mismatch keeps, outside extension elements, understood names only.
 use Rattle.std.proofs.Common.{◌≡◌, ℕ, zero, Bool, true, false, ◌&&◌, ◌⊎◌, List, [], ◌∷◌, ◌++◌, reverse, Some, sym, refl, ap, ◌∙◌, subst, inl, inr, arith}
 use mathlib.Core.Bool.{false≢true}
-use mathlib.Core.List.{nil≢cons}
 use Rattle.text.specs.Bytes.{Bytes}
 use Rattle.record.specs.declared.row.Row.{Row}
 use Rattle.record.specs.declared.row.PlacedRow.{PlacedRow}
@@ -23,7 +22,7 @@ use Rattle.rules.specs.Laws.{Stands, StandsOnly, has_name, Fine, UnderstoodOnly}
 use Rattle.rules.proofs.Members.{left_nil, right_nil, in_append, in_sub, in_when}
 use Rattle.rules.proofs.Rows.{IsKind, DeclsTrue, AttrsTrue, TokenTrue, AllTrue, all_true}
 use Rattle.rules.proofs.Rise.{tag-part}
-use Rattle.rules.proofs.Once.{stands_only, stands_on}
+use Rattle.rules.proofs.Once.{stands_only}
 use Rattle.rules.proofs.Whole.{whole}
 
 no_mark : (b : Bool) (p : ℕ) (c : Cause) → mark b p c ≡ [] → b ≡ false

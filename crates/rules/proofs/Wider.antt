@@ -42,8 +42,7 @@ housed-by K s inside behind t true false e f = absurd (false≢true (sym f))
 housed-by K s inside behind t false false e f = element_right K s inside behind t e
 
 housed_tail : (ext : List Name) (at : List Element) → Housed ext at → Housed ext (tail at)
-housed_tail ext [] h = h
-housed_tail ext (e ∷ out) h = h.1
+housed_tail ext at h = grind arith
 
 housed : (K : Knows) (ext : List Name) (toks : List Token) → faults K ext toks ≡ [] → Housed ext (around toks)
 unfolding faults faults_of around element in_extension
@@ -222,8 +221,7 @@ module _ (K K' : Knows) (w : Wider K K') where
         own a b (inr x) = inr x
 
         up : Or (extension_kept K' ext out) out → Or (extension_kept K' ext (n ∷ out)) (n ∷ out)
-        up (inl d) = inl (grind arith)
-        up (inr x) = inr (inr x)
+        up y = grind arith
 
         go : (extension_kept K ext out ≡ true) ⊎ ((not (in_extension ext out) && is_listed ext n.tag && reached K ext (n ∷ out)) ≡ true)
             → (extension_kept K ext out ≡ true → Or (extension_kept K' ext out) out) → Or (extension_kept K' ext (n ∷ out)) (n ∷ out)
@@ -242,8 +240,7 @@ module _ (K K' : Knows) (w : Wider K K') where
     text-from : (n : Element) (out : List Element) → in_extension ext (n ∷ out) ≡ false → reached K' ext (n ∷ out) ≡ true
         → ((kept K' ext (n ∷ out) || unwrapped K' ext (n ∷ out)) ≡ true) ⊎ ((is_branch n.tag && selected K' ext (n ∷ out)) ≡ true) → text_kept K' ext (n ∷ out) ≡ true
     unfolding text_kept
-    text-from n out i r (inl a) = grind arith
-    text-from n out i r (inr a) = grind arith
+    text-from n out x y z = grind arith
 
     text_or : (at : List Element) → Housed ext at → text_kept K ext at ≡ true → Or (text_kept K' ext at) at
     text_or [] h e = absurd (unfold text_kept in false≢true e)
@@ -309,8 +306,7 @@ module _ (K K' : Knows) (w : Wider K K') where
         two e (inr z) = inr (at, s e, z)
 
         go : p ≡ q → (x ≡ true) ⊎ (y ≡ true) → Still p (when (x' || y') q) toks
-        go e (inl b) = one e (f b)
-        go e (inr b) = two e (g b)
+        go h u = grind arith
 
     token_still : (t : Token) (past : List Token) → faults K ext (t ∷ past) ≡ [] → Housed ext (around past) → (p : PlacedRow)
         → In p (kept_of K ext t past) → Still p (kept_of K' ext t past) (t ∷ past)
