@@ -8,19 +8,19 @@ ghost use Rattle.rules.specs.Mismatches.{attr_marks};
 ghost use Rattle.rules.specs.Faults.{first};
 
 use crate::view::View;
+use attrs::tried::is_list_attr;
 use record::refusal::{Cause, Refusal};
 use record::row::PlacedRow;
-use text::names::{McAttribute, is_mc, mc_attribute};
+use text::names::McAttribute;
 
 impl<'a> View<'a> {
     ghost use Rattle.verdict.specs.Views.{texts_seen, scope_seen, Sees};
 
-    #[tactic(auto, unfolding(rules::specs::Elements::attr_of, rules::specs::Scope::mc_attribute, rules::specs::Scope::is_must_understand))]
+    #[tactic(auto, unfolding(rules::specs::Scope::is_must_understand))]
     fn is_must_understand(self, row: PlacedRow) -> bool
         ensures { result ≡ is_must_understand (attr_of (texts_seen self.entry) row) }
     {
-        is_mc(self.lent.at(row.row.a))
-            && mc_attribute(self.lent.at(row.row.b)) == Some(McAttribute::MustUnderstand)
+        is_list_attr(row, self.lent, McAttribute::MustUnderstand)
     }
 
     // A MustUnderstand that is heeded and names a namespace which is not understood.
