@@ -54,7 +54,9 @@ impl Course {
         let view = View {
             lent,
             known: &self.known,
-            scope: &self.scope,
+            bindings: self.scope.bindings(),
+            marks: self.scope.marks(),
+            pairs: self.scope.pairs(),
         };
         put_kept(sheet, element, view, opened.frame)?;
         Ok(Some(opened))

@@ -3,3 +3,4 @@ pub mod Stack
 pub mod Settling
 mod Firsts
 mod Opening
+pub mod Sizes

@@ -41,6 +41,12 @@ pub fn judge(
     ensures grown { OnOk result (Grown (scope_of (texts lent.entry) scope.old) (scope_of (texts lent.entry) scope.new)) }
 {
     let extension = try_tag(element, lent, known, extensions, around, scope)?;
-    let view = View { lent, known, scope };
+    let view = View {
+        lent,
+        known,
+        bindings: scope.bindings(),
+        marks: scope.marks(),
+        pairs: scope.pairs(),
+    };
     Ok(open(element, view, extension, around))
 }

@@ -4,7 +4,7 @@ ghost use Rattle.card.specs.Cards.{Name, OutsideMc};
 ghost use Rattle.rules.specs.Scope.{Scope, mc_element, is_choice, is_listed, items_of, requires_of, named, scope_with};
 ghost use Rattle.rules.specs.Steps.{all_understood};
 ghost use Rattle.rules.specs.States.{is_extension_state, is_alternate_state, state_in};
-ghost use Rattle.enter.specs.Scopes.{lengths_of};
+ghost use Rattle.enter.specs.Scopes.{sizes};
 ghost use Rattle.verdict.specs.Views.{scope_seen, tag_seen, Sees};
 ghost use Rattle.frames.specs.Parts.{reached_from, selected_from, opened_from, noted_from};
 ghost use Rattle.frames.specs.Opens.{Opens};
@@ -13,6 +13,7 @@ use crate::frame::Frame;
 use crate::marks::mismatch_of;
 use crate::opened::Opened;
 use crate::states::is_entered;
+use enter::in_scope::Lengths;
 use judge::element::Element;
 use rules::state::State;
 use text::names::McElement;
@@ -61,6 +62,7 @@ fn is_met(element: Element<'_, '_>, view: View<'_>, extension: bool) -> bool
 }
 
 // The frame of an element, by what is in scope at it.
+#[tactic(auto, using(crate::proofs::Sizes::sizes_seen))]
 fn frame_of(
     element: Element<'_, '_>,
     view: View<'_>,
@@ -68,7 +70,7 @@ fn frame_of(
     around: Frame,
     met: bool,
 ) -> Frame
-    ensures { (knows : Knows) → Sees view.entry knows → result ≡ opened_from (state_in knows extension (scope_seen view.entry) (tag_seen view.entry element.entry)) around (mc_element (tag_seen view.entry element.entry)) met (lengths_of view.entry.scope.now) }
+    ensures { (knows : Knows) → Sees view.entry knows → result ≡ opened_from (state_in knows extension (scope_seen view.entry) (tag_seen view.entry element.entry)) around (mc_element (tag_seen view.entry element.entry)) met (sizes (scope_seen view.entry)) }
 {
     let state = view.state_of(element, extension);
     let name = element.mc(view.lent);
@@ -78,7 +80,11 @@ fn frame_of(
         choice_selected: false,
         choice_seen: false,
         fallback_seen: false,
-        lengths: view.scope.lengths(),
+        lengths: Lengths {
+            bindings: view.bindings.len(),
+            marks: view.marks.len(),
+            pairs: view.pairs.len(),
+        },
     }
 }
 

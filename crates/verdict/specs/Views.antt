@@ -7,7 +7,7 @@ use Rattle.rules.specs.Elements.{Tag}
 use Rattle.rules.specs.Scope.{Scope}
 use Rattle.judge.specs.Tags.{tag_of}
 use Rattle.judge.specs.declared.element.Element.{Element}
-use Rattle.enter.specs.Scopes.{scope_of}
+use Rattle.scope.specs.Entries.{scope_from}
 use Rattle.understood.specs.Answers.{Knowing}
 use Rattle.verdict.specs.declared.view.View.{View}
 
@@ -17,7 +17,7 @@ texts_seen v = texts v.lent
 
 -- what is in scope
 abbrev pub scope_seen : View → Scope
-scope_seen v = scope_of (texts v.lent) v.scope.now
+scope_seen v = scope_from (texts v.lent) v.bindings.now v.marks.now v.pairs.now
 
 -- an element
 abbrev pub tag_seen : View → Element → Tag

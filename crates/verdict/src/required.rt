@@ -18,7 +18,7 @@ impl<'a> View<'a> {
     fn is_prefix_understood(self, prefix: &[u8]) -> bool
         ensures { (knows : Knows) → Sees self.entry knows → result ≡ all_understood knows (cons_some (bound (scope_seen self.entry).bindings prefix.now) []) }
     {
-        let space = space_of(prefix, self.lent, self.scope.bindings());
+        let space = space_of(prefix, self.lent, self.bindings);
         space.is_none_or(|space| self.known.has_space(space))
     }
 

@@ -18,7 +18,7 @@ impl<'a> View<'a> {
     {
         let namespace = self.lent.at(row.row.b);
         !is_mc(namespace)
-            && (self.known.has(row.row.b) || !is_marked(namespace, self.lent, self.scope.marks()))
+            && (self.known.has(row.row.b) || !is_marked(namespace, self.lent, self.marks))
     }
 
     // Whether a kept element keeps this attribute.

@@ -26,6 +26,6 @@ impl<'a> View<'a> {
         let namespace = self.lent.at(n);
         !is_mc(namespace)
             && self.is_foreign(n)
-            && is_marked(namespace, self.lent, self.scope.marks())
+            && is_marked(namespace, self.lent, self.marks)
     }
 }

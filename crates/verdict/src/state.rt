@@ -25,7 +25,7 @@ impl<'a> View<'a> {
             self.lent.at(start.a),
             self.lent.at(start.b),
             self.lent,
-            self.scope.pairs(),
+            self.pairs,
         ) {
             State::Unwrapped
         } else {

@@ -26,11 +26,11 @@ returns-in_err-put_kept-clause-waited g c =
     λ knows rows h.
     waited_unput (taken (texts c.args.lent) knows (extension_list c.args.extensions)) rows c.args.self.now h (tag_of (texts c.args.lent) c.in-Some.element) (sym h.follows.waits ∙ c.in-Some.ensures (texts c.args.lent)) c.innermost-around.result c.innermost-around.ensures _ _ _
     c.in_ok-opened.opened (c.in_ok-opened.ensures.answer knows h.knowing) (c.in_ok-opened.ensures.opens knows h.knowing) c.in_ok-opened.ensures.grown
-    c.from_residual-in_err-put_kept.result c.in_err-put_kept.field-0.0 (p.1 ∙ ap Err p.2) (c.in_err-put_kept.ensures knows h.knowing)
+    c.from_residual-in_err-put_kept.result c.in_err-put_kept.field-0.0 (p.1 ∙ ap Err p.2) (rw (← c.bindings.ensures, ← c.marks.ensures, ← c.pairs.ensures) (c.in_err-put_kept.ensures knows h.knowing))
 
 pub returns-clause-waited : goal.returns-clause-waited
 returns-clause-waited g c =
     λ knows rows h.
     waited_opened (taken (texts c.args.lent) knows (extension_list c.args.extensions)) rows c.args.self.now h (tag_of (texts c.args.lent) c.in-Some.element) (sym h.follows.waits ∙ c.in-Some.ensures (texts c.args.lent)) c.innermost-around.result c.innermost-around.ensures _ _ _
     c.in_ok-opened.opened (c.in_ok-opened.ensures.answer knows h.knowing) (c.in_ok-opened.ensures.opens knows h.knowing) c.in_ok-opened.ensures.grown
-    (c.in_ok-put_kept.ensures knows h.knowing)
+    (rw (← c.bindings.ensures, ← c.marks.ensures, ← c.pairs.ensures) (c.in_ok-put_kept.ensures knows h.knowing))

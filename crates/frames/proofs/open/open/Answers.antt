@@ -1,9 +1,8 @@
-use Rattle.std.proofs.Common.{cond, Option, ap, ◌∙◌}
+use Rattle.std.proofs.Common.{cond, Option, refl, ap, ◌∙◌}
 use Rattle.text.specs.declared.names.McElement.{McElement}
 use Rattle.rules.specs.States.{is_alternate_state}
-use Rattle.enter.specs.Scopes.{lengths_of}
-use Rattle.enter.proofs.Before.{sizes-of}
-use Rattle.verdict.specs.Views.{texts_seen, scope_seen, tag_seen}
+use Rattle.enter.specs.Scopes.{sizes}
+use Rattle.verdict.specs.Views.{scope_seen, tag_seen}
 use Rattle.frames.specs.Parts.{noted_from}
 use Rattle.frames.proofs.Opening.{opens_all}
 use Rattle.frames.proofs.open.open.Goals as goal
@@ -14,5 +13,5 @@ returns c =
     λ knows exts out k outside e h.
     opens_all knows exts out c.args.around (tag_seen c.args.view c.args.element) outside c.args.extension e
     (scope_seen c.args.view) h c.is_met-met.result (c.is_met-met.ensures knows k)
-    (lengths_of c.args.view.scope.now) (sizes-of (texts_seen c.args.view) c.args.view.scope.now) _ _ _
+    (sizes (scope_seen c.args.view)) refl _ _ _
     (c.frame_of-frame.ensures knows k) (c.note.ensures ∙ name-is) (c.mismatch_of.ensures knows exts out k)
