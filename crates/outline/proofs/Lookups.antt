@@ -9,7 +9,7 @@ use Rattle.sheet.specs.Rows.{Rows}
 use Rattle.outline.specs.declared.entry.Entry.{Entry}
 use Rattle.outline.specs.declared.entry.Span.TheVariants.{Open}
 use Rattle.outline.specs.Entries.{end_row, innermost, closed_by}
-use Rattle.outline.specs.Found.{number_or, number_at, around_of, around_at, climbed, end_in, end_for, end_at, found_from, found_at, StandsBy, Findable, top_from, LeadsUp}
+use Rattle.outline.specs.Found.{number_or, number_at, around_of, around_at, climbed, end_in, end_for, end_at, found_from, found_at, Findable, top_from, LeadsUp}
 use Rattle.outline.proofs.Nths.{nth_some, nth_push_lt, nth_push_at, nth_set_same, nth_set_other}
 
 -- an entry that stays, or an open start that is closed

@@ -40,10 +40,6 @@ pub(crate) fn first_surprise<S: Sheet>(sheet: &mut S, steps: &[(Step, Answer)]) 
         .position(|&(step, expected)| done(sheet, step) != expected)
 }
 
-fn shows<R: Readable>(readable: &R, n: usize, expected: PlacedRow) -> bool {
-    readable.row(n) == Some(expected)
-}
-
 // The number of the first row that is not as expected, from the count and from every row and some past the end.
 pub(crate) fn first_difference<R: Readable>(
     readable: &R,
@@ -54,8 +50,9 @@ pub(crate) fn first_difference<R: Readable>(
     }
     let different = rows
         .iter()
+        .map(|&(place, kind, a, b, c)| row(place, kind, a, b, c))
         .enumerate()
-        .position(|(n, &(place, kind, a, b, c))| !shows(readable, n, row(place, kind, a, b, c)));
+        .position(|(n, row)| readable.row(n) != Some(row));
     let more = readable.row(rows.len()).is_some() || readable.row(usize::MAX).is_some();
     different.or(more.then_some(rows.len()))
 }
@@ -84,8 +81,8 @@ pub(crate) fn nest<S: Sheet>(sheet: &mut S, levels: u32) -> Answer {
 pub(crate) fn is_nest<R: Readable>(readable: &R, levels: u32) -> bool {
     let has_pair = |place: u32| {
         let end = levels.saturating_add(place);
-        shows(readable, place as usize, row(place, 1, 1, 2, 0))
-            && shows(readable, end as usize, row(end, 5, 0, 0, 0))
+        readable.row(place as usize) == Some(row(place, 1, 1, 2, 0))
+            && readable.row(end as usize) == Some(row(end, 5, 0, 0, 0))
     };
     (0..levels).all(has_pair)
         && readable.count() == 2 * levels as usize
