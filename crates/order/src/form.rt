@@ -26,8 +26,7 @@ pub(crate) fn well_formed(lent: Texts<'_>, row: Row) -> Option<Kind>
     ensures kind { IfSome result (λ k. kind_of row.kind ≡ Some k) }
 {
     let kind = Kind::try_from(row.kind).ok()?;
-    let formed =
-        is_shaped(kind, row) && lent.has(row.a) && lent.has(row.b) && lent.has(row.c);
+    let formed = is_shaped(kind, row) && lent.has(row.a) && lent.has(row.b) && lent.has(row.c);
     formed.then_some(kind)
 }
 

@@ -24,8 +24,6 @@ impl<'a> View<'a> {
         ensures { (knows : Knows) → Sees self.entry knows → result ≡ is_dispensable knows (scope_seen self.entry).ignorables (text_at (texts_seen self.entry) n) }
     {
         let namespace = self.lent.at(n);
-        !is_mc(namespace)
-            && self.is_foreign(n)
-            && is_marked(namespace, self.lent, self.marks)
+        !is_mc(namespace) && self.is_foreign(n) && is_marked(namespace, self.lent, self.marks)
     }
 }
