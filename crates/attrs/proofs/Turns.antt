@@ -11,7 +11,6 @@ use Rattle.file.specs.Form.{text_at}
 use Rattle.rules.specs.Elements.{Attr, attr_of}
 use Rattle.rules.specs.Scope.{first_with}
 use Rattle.rules.specs.Faults.{first, fault, attr_name_faults, is_bad_attr, bad_attrs, xml_faults}
-use Rattle.rules.proofs.Firsts.{first-fault}
 use Rattle.attrs.specs.First.{IsFirstPassing}
 
 -- what is read past the end of some rows
@@ -27,6 +26,11 @@ module _ {X Y : Type 0} (f : X → Y) (test : Y → Bool) (xs : List X) (i : ℕ
   pub first_over : length xs ≤ i → first_with test (map f (drop i xs)) ≡ None
   unfolding first_with
   first_over le = ap (λ (l : List X). first_with test (map f l)) (drop_all i xs le)
+
+first-fault : (b : Bool) (r : Refusal) (rest : List Refusal) → first (fault b r ++ rest) ≡ cond b (Some r) (first rest)
+unfolding fault
+first-fault true r rest = refl
+first-fault false r rest = refl
 
 -- The first of some attributes that is at fault gives the first of their faults.
 module _ (bad : Attr → Bool) (refusal : ℕ → Refusal) (all : List Attr → List Refusal)
