@@ -4,12 +4,10 @@
 ghost use Rattle.rules_cases.specs.Eight.{EightAsStated};
 ghost use Rattle.rules_cases.specs.Worked.{WorkedAsStated};
 
-#[tactic(auto, unfolding(rules::specs::Open::open_rules))]
 pub fn eight_records_come_out_as_stated()
     ensures { EightAsStated }
 {}
 
-#[tactic(auto, unfolding(rules::specs::Open::open_rules))]
 pub fn worked_records_come_out_as_stated()
     ensures { WorkedAsStated }
 {}
