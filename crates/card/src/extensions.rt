@@ -15,6 +15,8 @@ pub struct Extensions<'a> {
 
 impl<'a> Extensions<'a> {
     // Whether an element with this namespace and local name is on the list.
+    // Asked for each element; in line, its loop over the rows would share the caller's registers and take a third longer.
+    #[inline(never)]
     pub fn has(&self, namespace: &[u8], local: &[u8]) -> bool
         ensures { result ≡ on_list (extensions (held self.now.card)) namespace.now local.now }
     {

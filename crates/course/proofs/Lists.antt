@@ -15,7 +15,7 @@ from_last {X} xs d lt =
     ∙ reverse-append (take (length xs - 1) xs) (get_or xs (length xs - 1) d ∷ [])
 
 -- without the last
-without_last : {X : Type 0} (xs : List X) → reverse (take (length xs - 1) xs) ≡ tail (reverse xs)
+pub without_last : {X : Type 0} (xs : List X) → reverse (take (length xs - 1) xs) ≡ tail (reverse xs)
 without_last [] = refl
 without_last (x ∷ xs) = sym (ap tail (from_last (x ∷ xs) x (omega arith)))
 

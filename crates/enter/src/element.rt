@@ -1,4 +1,4 @@
-ghost use Rattle.std.specs.Prelude.{◌≡◌, OnOk};
+ghost use Rattle.std.specs.Prelude.{◌≡◌, Bool, ◌&&◌, OnOk};
 ghost use Rattle.file.specs.Texts.{texts};
 ghost use Rattle.knowledge.specs.Understood.{Knows, is_understood};
 ghost use Rattle.rules.specs.Scope.{scope_with};
@@ -67,7 +67,7 @@ fn try_rest(
     spot: Spot,
     scope: &InScope,
 ) -> Result<(), Refusal>
-    ensures { refusal_of result ≡ first (rest_faults unwrapped (scope_of (texts lent.entry) scope.now) (is_inside spot) (is_behind spot) (tag_of (texts lent.entry) element.entry)) }
+    ensures { (behind : Bool) → is_behind spot ≡ is_inside spot && behind → refusal_of result ≡ first (rest_faults unwrapped (scope_of (texts lent.entry) scope.now) (is_inside spot) behind (tag_of (texts lent.entry) element.entry)) }
 {
     try_place(element, lent, spot, scope.marks())?;
     try_attributes(element, lent, scope.marks())?;
@@ -83,7 +83,7 @@ pub fn try_element(
     spot: Spot,
     scope: &mut InScope,
 ) -> Result<(), Refusal>
-    ensures answer { (knows : Knows) → understood ≡ is_understood knows (tag_of (texts lent.entry) element.entry).namespace → refusal_of result ≡ first (element_faults knows (scope_of (texts lent.entry) scope.old) (is_inside spot) (is_behind spot) (tag_of (texts lent.entry) element.entry)) }
+    ensures answer { (knows : Knows) (behind : Bool) → understood ≡ is_understood knows (tag_of (texts lent.entry) element.entry).namespace → is_behind spot ≡ is_inside spot && behind → refusal_of result ≡ first (element_faults knows (scope_of (texts lent.entry) scope.old) (is_inside spot) behind (tag_of (texts lent.entry) element.entry)) }
     ensures entered { OnOk result (scope_of (texts lent.entry) scope.new ≡ scope_with (tag_of (texts lent.entry) element.entry) (scope_of (texts lent.entry) scope.old)) }
 {
     enter(element, lent, scope)?;

@@ -70,7 +70,7 @@ fn tried(
         decls: decls.as_slice(),
         attrs: attrs.as_slice(),
     };
-    let spot = if inside { Spot::Inside } else { Spot::Outside };
+    let spot = Spot::of(inside, false);
     Ok(match try_element(element, lent, understood, spot, scope) {
         Ok(()) => FINE,
         Err(refusal) => (refusal.number(), refusal.place()),

@@ -1,4 +1,4 @@
-ghost use Rattle.std.specs.Prelude.{◌≡◌, not, ◌&&◌, is_some};
+ghost use Rattle.std.specs.Prelude.{◌≡◌, Bool, not, ◌&&◌, is_some};
 ghost use Rattle.file.specs.Texts.{texts};
 ghost use Rattle.text.specs.Names.{in_mc};
 ghost use Rattle.rules.specs.Scope.{is_ignorable_in, is_choice, requires_of};
@@ -28,6 +28,20 @@ pub enum Spot {
     BehindFallback,
 }
 
+impl Spot {
+    // Directly in an AlternateContent or not, and behind a Fallback or not, which counts inside only.
+    pub fn of(inside: bool, behind: bool) -> Spot
+        ensures inside { is_inside result ≡ inside }
+        ensures behind { is_behind result ≡ inside && behind }
+    {
+        match (inside, behind) {
+            (false, _) => Spot::Outside,
+            (true, false) => Spot::Inside,
+            (true, true) => Spot::BehindFallback,
+        }
+    }
+}
+
 // An element in markup compatibility is one that it has.
 pub fn try_start(element: Element<'_, '_>, lent: Texts<'_>) -> Result<(), Refusal>
     ensures { refusal_of result ≡ first (start_name_faults (tag_of (texts lent.entry) element.entry)) }
@@ -47,7 +61,7 @@ pub fn try_place(
     spot: Spot,
     marks: &[Mark],
 ) -> Result<(), Refusal>
-    ensures { refusal_of result ≡ first (place_faults (is_inside spot) (is_behind spot) (is_ignorable_in (ignorables_of (texts lent.entry) marks.now) (tag_of (texts lent.entry) element.entry).namespace) (tag_of (texts lent.entry) element.entry)) }
+    ensures { (behind : Bool) → is_behind spot ≡ is_inside spot && behind → refusal_of result ≡ first (place_faults (is_inside spot) behind (is_ignorable_in (ignorables_of (texts lent.entry) marks.now) (tag_of (texts lent.entry) element.entry).namespace) (tag_of (texts lent.entry) element.entry)) }
 {
     let namespace = lent.at(element.start.row.a);
     match (spot, element.is_branch(lent)) {

@@ -13,7 +13,7 @@ use Rattle.rules.specs.Records.{waiting}
 use Rattle.rules.proofs.Members.{left_nil, right_nil, no_fault}
 use Rattle.order.specs.declared.progress.Progress.{Progress}
 use Rattle.order.specs.Following.{Follows, waiting_in}
-use Rattle.order.proofs.Rests.{on-waiting, waiting_on_top, around_on_top, ended_on_top, none-length, tail_length}
+use Rattle.order.proofs.Rests.{on-waiting, waiting_on_top, around_on_top, ended_on_tag, none-length, tail_length}
 
 -- once a row has come
 come : (rows depth n : ℕ) → rows ≡ suc n → (eqb depth 0 && not (eqb rows 0)) ≡ eqb depth 0
@@ -59,7 +59,7 @@ module _ (ts : List Bytes) (past : List Row) (row : Row) (k : Kind) (ek : kind_o
         → q.depth ≡ p.depth → (on_tag limit (waiting_in ts p) ≡ false → waiting_in ts q ≡ on_top top (waiting_in ts p)) → Follows ts (row ∷ past) q
     noted_on_top top test limit m o l ed ew =
         let few : on_tag limit (waiting_in ts p) ≡ false = ap (on_tag limit) f.waits ∙ on-waiting limit (tokens ts past) ∙ sym l ∙ below_limit in
-        follows (cc (m, ended_on_top top test (tokens ts past) (sym o ∙ in_order))) (cc (m, f.depth, around_on_top top (tokens ts past)))
+        follows (cc (m, ended_on_tag top test (tokens ts past) (sym o ∙ in_order))) (cc (m, f.depth, around_on_top top (tokens ts past)))
         (cc (m, ew few, f.waits, waiting_on_top top (tokens ts past)))
 
 module _ (ts : List Bytes) (past : List Row) (row : Row) (p q : Progress) (f : Follows ts past p) (en : q.rows ≡ min (p.rows + 1) (2 ^ 32 - 1)) (e : row_faults ts past row ≡ []) where

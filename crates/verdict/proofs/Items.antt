@@ -10,7 +10,7 @@ use Rattle.rules.specs.Steps.{all_understood}
 abbrev pub is_item_understood : Knows → List Binding → Bytes → Bool
 is_item_understood knows bindings item = all_understood knows (cons_some (bound bindings item) [])
 
-understood-more : (knows : Knows) (o : Option Bytes) (rest : List Bytes)
+pub understood-more : (knows : Knows) (o : Option Bytes) (rest : List Bytes)
     → (all_understood knows (cons_some o []) && all_understood knows rest) ≡ all_understood knows (cons_some o rest)
 unfolding cons_some all_understood
 understood-more knows None rest = refl

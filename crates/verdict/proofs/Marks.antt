@@ -1,5 +1,5 @@
 -- The mismatches of some attributes, one attribute after the other.
-use Rattle.std.proofs.Common.{◌≡◌, ℕ, Bool, true, false, cond, not, ◌&&◌, List, [], ◌∷◌, ◌++◌, map, Some, None, Option, refl}
+use Rattle.std.proofs.Common.{◌≡◌, ℕ, Bool, true, false, cond, not, ◌&&◌, List, [], ◌∷◌, ◌++◌, map, Some, None, Option, refl, ap, ap₂, ◌∙◌}
 use Rattle.std.specs.Option.{option_or}
 use Rattle.record.specs.declared.row.PlacedRow.{PlacedRow}
 use Rattle.record.specs.declared.refusal.Cause.{Cause}
@@ -38,6 +38,20 @@ module _ (knows : Knows) (heeded kept : Bool) where
       (cond (kept && is_kept_attr knows s.ignorables x && is_foreign knows x.namespace) (Some (Mismatch x.placed.place ForeignName)) None)
   unfolding attr_marks
   marks_one s x = two-marks _ _ _ _ _ []
+
+  -- what is paired for ProcessContent does not count
+  pub marks_same : (s t : Scope) (xs : List Attr) → s.bindings ≡ t.bindings → s.ignorables ≡ t.ignorables → attr_marks knows heeded kept s xs ≡ attr_marks knows heeded kept t xs
+  unfolding attr_marks
+  marks_same s t [] b i = refl
+  marks_same s t (x ∷ xs) b i =
+      ap₂ (λ bs is.
+      mark (heeded && is_must_understand x && not (all_understood knows (named bs (items x.value)))) x.placed.place MustUnderstand
+      ++ mark (kept && is_kept_attr knows is x && is_foreign knows x.namespace) x.placed.place ForeignName
+      ++ attr_marks knows heeded kept s xs) b i
+      ∙ ap (λ rest.
+      mark (heeded && is_must_understand x && not (all_understood knows (named t.bindings (items x.value)))) x.placed.place MustUnderstand
+      ++ mark (kept && is_kept_attr knows t.ignorables x && is_foreign knows x.namespace) x.placed.place ForeignName
+      ++ rest) (marks_same s t xs b i)
 
   module _ (v : View) where
     abbrev pub mark_of : PlacedRow → Option Refusal

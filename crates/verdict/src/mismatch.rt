@@ -2,7 +2,7 @@ ghost use Rattle.std.specs.Prelude.{◌≡◌, not, ◌&&◌, [], ◌∷◌, map
 ghost use Rattle.items.specs.Items.{items};
 ghost use Rattle.knowledge.specs.Understood.{Knows};
 ghost use Rattle.rules.specs.Elements.{attr_of};
-ghost use Rattle.rules.specs.Scope.{is_must_understand, named};
+ghost use Rattle.rules.specs.Scope.{Scope, is_must_understand, named};
 ghost use Rattle.rules.specs.Steps.{all_understood, is_foreign, is_kept_attr};
 ghost use Rattle.rules.specs.Mismatches.{attr_marks};
 ghost use Rattle.rules.specs.Faults.{first};
@@ -59,7 +59,7 @@ impl<'a> View<'a> {
 
     // The first mismatch of an element's attributes, where MustUnderstand is `heeded` and where attributes are `kept`.
     pub fn attr_mismatch(self, attrs: &[PlacedRow], heeded: bool, kept: bool) -> Option<Refusal>
-        ensures { (knows : Knows) → Sees self.entry knows → result ≡ first (attr_marks knows heeded kept (scope_seen self.entry) (map (attr_of (texts_seen self.entry)) attrs.now)) }
+        ensures { (knows : Knows) (s : Scope) → Sees self.entry knows → s.bindings ≡ (scope_seen self.entry).bindings → s.ignorables ≡ (scope_seen self.entry).ignorables → result ≡ first (attr_marks knows heeded kept s (map (attr_of (texts_seen self.entry)) attrs.now)) }
     {
         attrs
             .iter()

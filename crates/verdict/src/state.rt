@@ -1,6 +1,6 @@
 ghost use Rattle.std.specs.Prelude.{◌≡◌, false, None};
 ghost use Rattle.knowledge.specs.Understood.{Knows};
-ghost use Rattle.rules.specs.Scope.{is_processed_in};
+ghost use Rattle.rules.specs.Scope.{Scope, is_processed_in};
 ghost use Rattle.rules.specs.Steps.{is_dispensable};
 ghost use Rattle.rules.specs.States.{state_by, state_in};
 
@@ -36,7 +36,7 @@ impl<'a> View<'a> {
     // The state of an element; `extension` says that it is on the extension list or inside such an element.
     #[tactic(auto, unfolding(rules::specs::States::state_by, rules::specs::States::state_in))]
     pub fn state_of(self, element: Element<'_, '_>, extension: bool) -> State
-        ensures { (knows : Knows) → Sees self.entry knows → result ≡ state_in knows extension (scope_seen self.entry) (tag_seen self.entry element.entry) }
+        ensures { (knows : Knows) (s : Scope) → Sees self.entry knows → s.ignorables ≡ (scope_seen self.entry).ignorables → s.processed ≡ (scope_seen self.entry).processed → result ≡ state_in knows extension s (tag_seen self.entry element.entry) }
     {
         if extension {
             return State::Extension;

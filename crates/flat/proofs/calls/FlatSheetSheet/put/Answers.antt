@@ -5,7 +5,7 @@ use Rattle.roll.specs.Rolls.{items, slot_count}
 use Rattle.sheet.proofs.Drafts.{drafted_starts, drafted-put, put-accepted, put_refused, accepted-room}
 use Rattle.flat.specs.Flats.{flat_cost}
 use Rattle.flat.proofs.Costs.{flat-room}
-use Rattle.flat.proofs.FlatSheetSheet.put.Goals as goal
+use Rattle.flat.proofs.calls.FlatSheetSheet.put.Goals as goal
 
 pub returns-in_err-judge : goal.returns-in_err-judge
 returns-in_err-judge c =

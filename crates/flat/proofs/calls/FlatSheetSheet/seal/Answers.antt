@@ -2,7 +2,7 @@ use Rattle.std.proofs.Common.{◌≡◌, ◌-◌, sym, ap, ◌∙◌, eqb-true}
 use Rattle.roll.specs.Rolls.{items, slot_count}
 use Rattle.sheet.proofs.Drafts.{drafted_seal, seal_accepted, seal_refused}
 use Rattle.flat.specs.Flats.{flat_cost}
-use Rattle.flat.proofs.FlatSheetSheet.seal.Goals as goal
+use Rattle.flat.proofs.calls.FlatSheetSheet.seal.Goals as goal
 
 pub returns-then-not-is_closed : goal.returns-then-not-is_closed
 returns-then-not-is_closed c =

@@ -1,7 +1,7 @@
 use Rattle.roll.specs.Rolls.{items, slot_count}
 use Rattle.sheet.proofs.Drafts.{drafted-drop, dropped}
 use Rattle.flat.specs.Flats.{flat_cost}
-use Rattle.flat.proofs.FlatSheetSheet.drop_draft.Goals as goal
+use Rattle.flat.proofs.calls.FlatSheetSheet.drop_draft.Goals as goal
 
 pub invariant_of-self : goal.invariant_of-self
 invariant_of-self c = rw c.new-self.ensures (record { drafted = drafted-drop _ _ (items c.args.self.now.roll) c.args.self.now.drafted _ c.truncate.ensures.items })
